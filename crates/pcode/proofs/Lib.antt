@@ -1,0 +1,4 @@
+pub mod Ids
+pub mod Cut
+pub mod Names
+pub mod Marks

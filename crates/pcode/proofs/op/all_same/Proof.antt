@@ -1,0 +1,19 @@
+use borrow.Author.Needs.{needs}
+use native.Mathlib.Omega.{arith}
+use mathlib.Core.Path.{sym, ap, _∙_}
+use borrow.Author.Tests.{eq-eqb, ne-eqb}
+use Rattle.pcode.proofs.op.all_same.Statement.{statement}
+use Rattle.pcode.proofs.op.all_same.Tie as tie
+use Rattle.pcode.proofs.op.all_same.Reads as reads
+use Rattle.pcode.proofs.op.all_same.Lts as lts
+
+-- src/op.rt:195:9
+returns : tie.Need-returns
+returns c = simp (ne-eqb _ _ (c .if1 .taken))
+
+-- src/op.rt:191:1
+returns-2 : tie.Need-returns-2
+returns-2 c = simp (eq-eqb _ _ (c .if1 .left))
+
+pub all-same-spec : {M : Type 1} → statement M
+all-same-spec = tie.close (tie.spec returns returns-2)
