@@ -1,0 +1,4 @@
+pub mod Store
+pub mod Moved
+pub mod Fold
+pub mod Shifted

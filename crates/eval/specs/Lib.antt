@@ -1,0 +1,5 @@
+pub mod Held
+pub mod Sizes
+pub mod Eval
+pub mod Name
+pub mod Operand

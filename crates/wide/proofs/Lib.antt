@@ -1,0 +1,4 @@
+pub mod Laws
+pub mod Halves
+pub mod Powers
+pub mod Products
