@@ -90,11 +90,11 @@ module _ (P Q a b : ℕ) (even : P ≡ Q + Q) (ha : a < P) (hb : b < P) where
       let la = leb-true P (2 * a) ea in
       let lb = leb-true P (2 * b) eb in
       simp (ea, eb) (ap not (same ∙ sym (sum-high (omega arith) (omega arith)))) where
-    same : ltb (2 * suc (P - 1 - a + (P - 1 - b))) P ≡ leb P (2 * (a + b - P))
-    same =
-        iff (ltb (2 * suc (P - 1 - a + (P - 1 - b))) P) (leb P (2 * (a + b - P)))
-        (λ t. le-leb P (2 * (a + b - P)) (let l = ltb-true (2 * suc (P - 1 - a + (P - 1 - b))) P t in let h : suc (P - 1 - a + (P - 1 - b)) < Q = omega arith in omega arith))
-        (λ t. lt-ltb (2 * suc (P - 1 - a + (P - 1 - b))) P (let l = leb-true P (2 * (a + b - P)) t in let h : Q ≤ a + b - P = omega arith in omega arith))
+        same : ltb (2 * suc (P - 1 - a + (P - 1 - b))) P ≡ leb P (2 * (a + b - P))
+        same =
+            iff (ltb (2 * suc (P - 1 - a + (P - 1 - b))) P) (leb P (2 * (a + b - P)))
+            (λ t. le-leb P (2 * (a + b - P)) (let l = ltb-true (2 * suc (P - 1 - a + (P - 1 - b))) P t in let h : suc (P - 1 - a + (P - 1 - b)) < Q = omega arith in omega arith))
+            (λ t. lt-ltb (2 * suc (P - 1 - a + (P - 1 - b))) P (let l = leb-true P (2 * (a + b - P)) t in let h : Q ≤ a + b - P = omega arith in omega arith))
 
   pub carry-pos-neg : leb P (2 * a) ≡ false → leb P (2 * b) ≡ true → not (fits P (at P a +ℤ at P b)) ≡ false
   carry-pos-neg ea eb =
@@ -136,10 +136,10 @@ module _ (P Q a b : ℕ) (even : P ≡ Q + Q) (ha : a < P) (hb : b < P) where
       let g : a + (P - b) - P < P = omega arith in
       let e : (a + (P - b)) % P ≡ a - b = (let m = mod-eq-sub-mod h in let k = mod-eq-of-lt g in omega arith) in
       simp (ea, eb) (ap not (ap (λ (n : ℕ). ltb (2 * n) P) (mag-down (P - 1 - a) b) ∙ same ∙ ap (λ (n : ℕ). leb P (2 * n)) (sym e))) where
-    same : ltb (2 * (P - 1 - a + b)) P ≡ leb P (2 * (a - b))
-    same =
-        let la = leb-true P (2 * a) ea in
-        let lb = leb-false P (2 * b) eb in
-        iff (ltb (2 * (P - 1 - a + b)) P) (leb P (2 * (a - b)))
-        (λ t. le-leb P (2 * (a - b)) (let l = ltb-true (2 * (P - 1 - a + b)) P t in let h : P - 1 - a + b < Q = omega arith in omega arith))
-        (λ t. lt-ltb (2 * (P - 1 - a + b)) P (let l = leb-true P (2 * (a - b)) t in let h : Q ≤ a - b = omega arith in omega arith))
+        same : ltb (2 * (P - 1 - a + b)) P ≡ leb P (2 * (a - b))
+        same =
+            let la = leb-true P (2 * a) ea in
+            let lb = leb-false P (2 * b) eb in
+            iff (ltb (2 * (P - 1 - a + b)) P) (leb P (2 * (a - b)))
+            (λ t. le-leb P (2 * (a - b)) (let l = ltb-true (2 * (P - 1 - a + b)) P t in let h : P - 1 - a + b < Q = omega arith in omega arith))
+            (λ t. lt-ltb (2 * (P - 1 - a + b)) P (let l = leb-true P (2 * (a - b)) t in let h : Q ≤ a - b = omega arith in omega arith))

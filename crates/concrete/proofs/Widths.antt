@@ -45,7 +45,7 @@ pub wraps : (M P r a b : ℕ) → ((n : ℕ) → n % M % P ≡ n % P) → b ≤ 
 wraps M P r a b cuts h e =
     let s : r + b + (P - b) ≡ r + P = omega arith in
     sym (sym (mod-add-mod a P (P - b)) ∙ ap (λ (n : ℕ). (n % P + (P - b)) % P) (sym e) ∙ ap (λ (n : ℕ). (n + (P - b)) % P) (cuts (r + b))
-      ∙ mod-add-mod (r + b) P (P - b) ∙ ap (λ (n : ℕ). n % P) s ∙ add-mod-right r P)
+    ∙ mod-add-mod (r + b) P (P - b) ∙ ap (λ (n : ℕ). n % P) s ∙ add-mod-right r P)
 
 pub not-less : (a b : ℕ) → not (ltb a b) ≡ leb b a
 not-less a b = by (ltb a b) refl where

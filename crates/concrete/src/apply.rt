@@ -7,13 +7,6 @@ ghost use Rattle.pcode.specs.Var.{pick};
 ghost use Rattle.wide.specs.Value.{valueOf};
 ghost use Rattle.meaning.specs.Meaning.{oneIf, odd, sign, meansOne, meansTwo, meansShift, meansBool, meaning};
 ghost use Rattle.concrete.specs.Fits.{Alone, Both, Grows, Applies};
-
-use wide::Wide;
-use pcode::op::BoolOp;
-use pcode::op::OneOp;
-use pcode::op::Op;
-use pcode::op::ShiftOp;
-use pcode::op::TwoOp;
 use crate::compare::compare;
 use crate::number::add_at;
 use crate::number::count_leading_zeros;
@@ -27,6 +20,12 @@ use crate::number::right;
 use crate::number::sign_at;
 use crate::number::small;
 use crate::number::sub_at;
+use pcode::op::BoolOp;
+use pcode::op::OneOp;
+use pcode::op::Op;
+use pcode::op::ShiftOp;
+use pcode::op::TwoOp;
+use wide::Wide;
 
 pub fn truth(b: bool) -> Wide
     ensures { λ r. ⌜ valueOf r ≡ oneIf b ⌝ }

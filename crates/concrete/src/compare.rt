@@ -8,12 +8,11 @@ ghost use lib.Signed.{ltZ};
 ghost use Rattle.wide.specs.Value.{valueOf};
 ghost use Rattle.meaning.specs.Meaning.{signed, inRange, meansCompare};
 ghost use Rattle.concrete.specs.Fits.{Both};
-
-use wide::Wide;
-use pcode::op::CompareOp;
 use crate::number::add_at;
 use crate::number::sign_at;
 use crate::number::sub_at;
+use pcode::op::CompareOp;
+use wide::Wide;
 
 fn carry(w: u64, a: Wide, b: Wide) -> bool
     requires { ⌜ Both w (valueOf a) (valueOf b) ⌝ }

@@ -5,7 +5,6 @@ ghost use Prim.Native.Nat.{ℕ, _+_, _-_, _*_, _/_, _%_, _^_, _<_, _≤_};
 ghost use lib.Dec.{eqb, ltb, leb};
 ghost use Rattle.wide.specs.Value.{valueOf};
 ghost use Rattle.meaning.specs.Meaning.{sign, countOnes, leadingZeros, shiftLeft, shiftRight};
-
 use wide::Wide;
 
 // The number whose lowest `w` bits are one.

@@ -29,7 +29,7 @@ split-at (suc k) m (x ∷ xs) h =
     let f = split-at k m xs (le-of-suc-le-suc h) in
     let g = mul-add 256 (numOf (take k xs)) (256 ^ k * numOf (take m (drop k xs))) in
     let p : 256 ^ suc k * numOf (take m (drop k xs)) ≡ 256 * (256 ^ k * numOf (take m (drop k xs))) =
-      ap (λ (n : ℕ). n * numOf (take m (drop k xs))) (pow-succ' 256 k) ∙ mul-assoc 256 (256 ^ k) (numOf (take m (drop k xs))) in
+    ap (λ (n : ℕ). n * numOf (take m (drop k xs))) (pow-succ' 256 k) ∙ mul-assoc 256 (256 ^ k) (numOf (take m (drop k xs))) in
     let q = ap (λ (n : ℕ). 256 * n) f in
     omega arith
 

@@ -6,7 +6,6 @@ ghost use lib.ListN.{getD, set, take, drop, replicate};
 ghost use lib.Seq.{paste};
 ghost use Rattle.wide.specs.Value.{valueOf};
 ghost use Rattle.state.specs.Bytes.{numOf, bytesOf, readOf, writeOf};
-
 use wide::Wide;
 
 fn widen(b: u8) -> u64
@@ -106,7 +105,13 @@ pub fn read(state: [[u8; 16]; 112], row: usize, offset: usize, size: usize) -> W
 }
 
 // The state with part of one row replaced: every other row, and the row's other bytes, stay.
-pub fn write(state: [[u8; 16]; 112], row: usize, offset: usize, size: usize, v: Wide) -> [[u8; 16]; 112]
+pub fn write(
+    state: [[u8; 16]; 112],
+    row: usize,
+    offset: usize,
+    size: usize,
+    v: Wide,
+) -> [[u8; 16]; 112]
     requires { ⌜ (row < 112) × (offset + size ≤ 16) ⌝ }
     ensures { λ r. ⌜ r ≡ writeOf state row offset size (valueOf v) ⌝ }
 {

@@ -66,10 +66,10 @@ module _ (W : ℕ) (pos : 0 < W) where
   shr-low lo hi c d e p =
       ap (λ (v : ℕ). (lo + v * hi) / c) e ∙ ap (λ (v : ℕ). (lo + v) / c) (mul-assoc c d hi) ∙ add-mul-div-left lo (d * hi) p
       ∙ (let m : d * hi ≡ hi % c * d + W * (hi / c) =
-          ap (λ (v : ℕ). d * v) (sym (mod-add-div hi c)) ∙ mul-add d (hi % c) (c * (hi / c))
-          ∙ ap (λ (v : ℕ). v + d * (c * (hi / c))) (mul-comm d (hi % c))
-          ∙ ap (λ (v : ℕ). hi % c * d + v) (sym (mul-assoc d c (hi / c)) ∙ ap (λ (v : ℕ). v * (hi / c)) (mul-comm d c ∙ sym e)) in
-        omega arith)
+      ap (λ (v : ℕ). d * v) (sym (mod-add-div hi c)) ∙ mul-add d (hi % c) (c * (hi / c))
+      ∙ ap (λ (v : ℕ). v + d * (c * (hi / c))) (mul-comm d (hi % c))
+      ∙ ap (λ (v : ℕ). hi % c * d + v) (sym (mul-assoc d c (hi / c)) ∙ ap (λ (v : ℕ). v * (hi / c)) (mul-comm d c ∙ sym e)) in
+      omega arith)
 
   -- a digit's quotient and the other's remainder make one digit
   pub fits-low : (lo hi c d : ℕ) → W ≡ c * d → 0 < c → lo < W → lo / c + hi % c * d < W

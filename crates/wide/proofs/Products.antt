@@ -28,18 +28,18 @@ module _ (B : ℕ) where
       let em : m / B * B + m % B ≡ m = div-add-mod' m B in
       let fp = mul-comm (p / B) B in
       let fq : B * q ≡ B * (B * (q / B)) + B * (q % B) =
-        ap (λ (n : ℕ). B * n) (sym eq) ∙ mul-add B (q / B * B) (q % B) ∙ ap (λ (n : ℕ). B * n + B * (q % B)) (mul-comm (q / B) B) in
+      ap (λ (n : ℕ). B * n) (sym eq) ∙ mul-add B (q / B * B) (q % B) ∙ ap (λ (n : ℕ). B * n + B * (q % B)) (mul-comm (q / B) B) in
       let fr : B * r ≡ B * (B * (r / B)) + B * (r % B) =
-        ap (λ (n : ℕ). B * n) (sym er) ∙ mul-add B (r / B * B) (r % B) ∙ ap (λ (n : ℕ). B * n + B * (r % B)) (mul-comm (r / B) B) in
+      ap (λ (n : ℕ). B * n) (sym er) ∙ mul-add B (r / B * B) (r % B) ∙ ap (λ (n : ℕ). B * n + B * (r % B)) (mul-comm (r / B) B) in
       let fm : B * m ≡ B * (B * (m / B)) + B * (m % B) =
-        ap (λ (n : ℕ). B * n) (sym em) ∙ mul-add B (m / B * B) (m % B) ∙ ap (λ (n : ℕ). B * n + B * (m % B)) (mul-comm (m / B) B) in
+      ap (λ (n : ℕ). B * n) (sym em) ∙ mul-add B (m / B * B) (m % B) ∙ ap (λ (n : ℕ). B * n + B * (m % B)) (mul-comm (m / B) B) in
       let gm : B * m ≡ B * (p / B) + B * (q % B) + B * (r % B) =
-        ap (λ (n : ℕ). B * n) e ∙ mul-add B (p / B + q % B) (r % B) ∙ ap (λ (n : ℕ). n + B * (r % B)) (mul-add B (p / B) (q % B)) in
+      ap (λ (n : ℕ). B * n) e ∙ mul-add B (p / B + q % B) (r % B) ∙ ap (λ (n : ℕ). n + B * (r % B)) (mul-add B (p / B) (q % B)) in
       let h : (B * B) * (s + q / B + r / B + m / B) ≡ B * (B * s) + B * (B * (q / B)) + B * (B * (r / B)) + B * (B * (m / B)) =
-        mul-assoc B B (s + q / B + r / B + m / B)
-        ∙ ap (λ (n : ℕ). B * n) (mul-add B (s + q / B + r / B) (m / B) ∙ ap (λ (n : ℕ). n + B * (m / B)) (mul-add B (s + q / B) (r / B) ∙ ap (λ (n : ℕ). n + B * (r / B)) (mul-add B s (q / B))))
-        ∙ mul-add B (B * s + B * (q / B) + B * (r / B)) (B * (m / B))
-        ∙ ap (λ (n : ℕ). n + B * (B * (m / B))) (mul-add B (B * s + B * (q / B)) (B * (r / B)) ∙ ap (λ (n : ℕ). n + B * (B * (r / B))) (mul-add B (B * s) (B * (q / B)))) in
+      mul-assoc B B (s + q / B + r / B + m / B)
+      ∙ ap (λ (n : ℕ). B * n) (mul-add B (s + q / B + r / B) (m / B) ∙ ap (λ (n : ℕ). n + B * (m / B)) (mul-add B (s + q / B) (r / B) ∙ ap (λ (n : ℕ). n + B * (r / B)) (mul-add B s (q / B))))
+      ∙ mul-add B (B * s + B * (q / B) + B * (r / B)) (B * (m / B))
+      ∙ ap (λ (n : ℕ). n + B * (B * (m / B))) (mul-add B (B * s + B * (q / B)) (B * (r / B)) ∙ ap (λ (n : ℕ). n + B * (B * (r / B))) (mul-add B (B * s) (B * (q / B)))) in
       let k = mul-add B q r in
       omega arith
 
@@ -69,15 +69,15 @@ pub wrapped : (W : ℕ) (pos : 0 < W) (al ah bl bh pl ph ql qh rl rh : ℕ) → 
 wrapped W pos al ah bl bh pl ph ql qh rl rh h ep eq er =
     ap (λ (n : ℕ). pl + W * n) (add-mod-mod ph (ql + rl) W) ∙ sym (cut-high W pos pl (ph + (ql + rl)) W pos h)
     ∙ sym (add-mul-mod-self-left (pl + W * (ph + (ql + rl))) (W * W) (qh + rh + ah * bh)) ∙ ap (λ (n : ℕ). n % (W * W)) (sym parts) where
-  parts : (al + W * ah) * (bl + W * bh) ≡ pl + W * (ph + (ql + rl)) + W * W * (qh + rh + ah * bh)
-  parts =
-      let f = four W al ah bl bh in
-      let mixed : al * bh + ah * bl ≡ (ql + W * qh) + (rl + W * rh) = omega arith in
-      let x : W * (al * bh + ah * bl) ≡ W * ql + W * (W * qh) + (W * rl + W * (W * rh)) =
-        ap (λ (n : ℕ). W * n) mixed
-        ∙ mul-add W (ql + W * qh) (rl + W * rh) ∙ ap (λ (n : ℕ). n + W * (rl + W * rh)) (mul-add W ql (W * qh)) ∙ ap (λ (n : ℕ). W * ql + W * (W * qh) + n) (mul-add W rl (W * rh)) in
-      let u : W * (ph + (ql + rl)) ≡ W * ph + (W * ql + W * rl) = mul-add W ph (ql + rl) ∙ ap (λ (n : ℕ). W * ph + n) (mul-add W ql rl) in
-      let v : W * W * (qh + rh + ah * bh) ≡ W * (W * qh) + W * (W * rh) + W * (W * (ah * bh)) =
-        mul-assoc W W (qh + rh + ah * bh) ∙ ap (λ (n : ℕ). W * n) (mul-add W (qh + rh) (ah * bh) ∙ ap (λ (n : ℕ). n + W * (ah * bh)) (mul-add W qh rh))
-        ∙ mul-add W (W * qh + W * rh) (W * (ah * bh)) ∙ ap (λ (n : ℕ). n + W * (W * (ah * bh))) (mul-add W (W * qh) (W * rh)) in
-      omega arith
+      parts : (al + W * ah) * (bl + W * bh) ≡ pl + W * (ph + (ql + rl)) + W * W * (qh + rh + ah * bh)
+      parts =
+          let f = four W al ah bl bh in
+          let mixed : al * bh + ah * bl ≡ (ql + W * qh) + (rl + W * rh) = omega arith in
+          let x : W * (al * bh + ah * bl) ≡ W * ql + W * (W * qh) + (W * rl + W * (W * rh)) =
+          ap (λ (n : ℕ). W * n) mixed
+          ∙ mul-add W (ql + W * qh) (rl + W * rh) ∙ ap (λ (n : ℕ). n + W * (rl + W * rh)) (mul-add W ql (W * qh)) ∙ ap (λ (n : ℕ). W * ql + W * (W * qh) + n) (mul-add W rl (W * rh)) in
+          let u : W * (ph + (ql + rl)) ≡ W * ph + (W * ql + W * rl) = mul-add W ph (ql + rl) ∙ ap (λ (n : ℕ). W * ph + n) (mul-add W ql rl) in
+          let v : W * W * (qh + rh + ah * bh) ≡ W * (W * qh) + W * (W * rh) + W * (W * (ah * bh)) =
+          mul-assoc W W (qh + rh + ah * bh) ∙ ap (λ (n : ℕ). W * n) (mul-add W (qh + rh) (ah * bh) ∙ ap (λ (n : ℕ). n + W * (ah * bh)) (mul-add W qh rh))
+          ∙ mul-add W (W * qh + W * rh) (W * (ah * bh)) ∙ ap (λ (n : ℕ). n + W * (W * (ah * bh))) (mul-add W (W * qh) (W * rh)) in
+          omega arith

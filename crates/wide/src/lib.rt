@@ -69,6 +69,7 @@ fn digit_product(a: u64, b: u64) -> u64
 
 impl Wide {
     pub const ZERO: Wide = Wide { lo: 0, hi: 0 };
+
     pub const ONE: Wide = Wide { lo: 1, hi: 0 };
 
     pub fn add(self, b: Wide) -> Wide

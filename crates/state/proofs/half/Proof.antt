@@ -26,10 +26,13 @@ abbrev μ-loop : tie.MeasureT-loop
 -- src/lib.rt:25:5
 loop-holds : tie.Need-loop-holds Inv-loop μ-loop
 loop-holds c =
-    let z : c .args .n - c .args .n ≡ 0 = omega arith in
-    (search needs, search needs, search needs,
-     sym (ap (λ (k : ℕ). numOf (take k (drop (c .args .from + c .args .n) (c .args .t1)))) z ∙ nothing (drop (c .args .from + c .args .n) (c .args .t1))),
-     subst (λ (k : ℕ). 0 < 256 ^ k) (sym z) (lit< tt))
+    let z : c .args .n - c .args .n ≡ 0 = omega arith in (
+      search needs,
+      search needs,
+      search needs,
+      sym (ap (λ (k : ℕ). numOf (take k (drop (c .args .from + c .args .n) (c .args .t1)))) z ∙ nothing (drop (c .args .from + c .args .n) (c .args .t1))),
+      subst (λ (k : ℕ). 0 < 256 ^ k) (sym z) (lit< tt),
+    )
 
 -- src/lib.rt:26:9
 sub-i : tie.Need-sub-i Inv-loop μ-loop
@@ -80,9 +83,13 @@ loop-again c =
     let v = ap (λ (n : ℕ). 256 * n) (c .before .before .loop .inv .3) in
     let d = next-down (x .t1) (x .from) (x .n) i (omega arith) (omega arith) (omega arith) in
     let g = grows (x .n - i) (c .before .before .loop .v) (c .widen .result) (c .before .before .loop .inv .4) (omega arith) in
-    let z : suc (x .n - i) ≡ x .n - (i - 1) = omega arith in
-    (search needs, search needs, search needs, omega arith,
-     subst (λ (k : ℕ). 256 * c .before .before .loop .v + c .widen .result < 256 ^ k) z g)
+    let z : suc (x .n - i) ≡ x .n - (i - 1) = omega arith in (
+      search needs,
+      search needs,
+      search needs,
+      omega arith,
+      subst (λ (k : ℕ). 256 * c .before .before .loop .v + c .widen .result < 256 ^ k) z g,
+    )
 
 -- src/lib.rt:19:1
 returns : tie.Need-returns Inv-loop μ-loop

@@ -57,11 +57,12 @@ loop-again c =
     let l : length old ≡ 16 = search needs in
     let m : length (bytesOf 8 (x .x)) ≡ 8 = bytes-length 8 (x .x) in
     let b : c .low-byte .result ≡ getD (bytesOf 8 (x .x)) i 0 =
-      c .low-byte .ensures ∙ ap (λ (n : ℕ). n % 256) (c .before .before .loop .inv .1) ∙ sym (byte-at 8 (x .x) i (omega arith)) in
-    (search needs,
-     ap (λ (n : ℕ). n / 256) (c .before .before .loop .inv .1) ∙ div-div-eq-div-mul (x .x) (256 ^ i) 256
-       ∙ ap (λ (n : ℕ). x .x / n) (mul-comm (256 ^ i) 256 ∙ sym (pow-succ' 256 i) ∙ ap (λ (n : ℕ). 256 ^ n) (sym (add-one i))),
-     rw (c .before .before .loop .inv .2, b, add-one) (paste-suc old (x .at) (bytesOf 8 (x .x)) i 0 (omega arith) (omega arith)))
+    c .low-byte .ensures ∙ ap (λ (n : ℕ). n % 256) (c .before .before .loop .inv .1) ∙ sym (byte-at 8 (x .x) i (omega arith)) in (
+      search needs,
+      ap (λ (n : ℕ). n / 256) (c .before .before .loop .inv .1) ∙ div-div-eq-div-mul (x .x) (256 ^ i) 256
+          ∙ ap (λ (n : ℕ). x .x / n) (mul-comm (256 ^ i) 256 ∙ sym (pow-succ' 256 i) ∙ ap (λ (n : ℕ). 256 ^ n) (sym (add-one i))),
+      rw (c .before .before .loop .inv .2, b, add-one) (paste-suc old (x .at) (bytesOf 8 (x .x)) i 0 (omega arith) (omega arith)),
+    )
 
 -- src/lib.rt:56:1
 returns : tie.Need-returns Inv-loop μ-loop

@@ -36,10 +36,10 @@ returns c = let x = c .before .before .before .before .args in
     let first = c .before .before .before .wrapping-add-u64 in
     let k = c .before .before .carry in
     in-two-steps (2 ^ 64) (lit< tt) (x .self .lo) (x .self .hi) (x .b .lo) (x .b .hi) (first .result) (k .result) (c .before .wrapping-add-u642 .result) (c .wrapping-add-u643 .result)
-      (k .ensures ∙ ap (λ (l : ℕ). k .result * 2 ^ 64 + l) (sym (first .ensures)))
-      (search needs)
-      (sym (c .before .wrapping-add-u642 .ensures))
-      (sym (c .wrapping-add-u643 .ensures))
+    (k .ensures ∙ ap (λ (l : ℕ). k .result * 2 ^ 64 + l) (sym (first .ensures)))
+    (search needs)
+    (sym (c .before .wrapping-add-u642 .ensures))
+    (sym (c .wrapping-add-u643 .ensures))
 
 pub add-spec : {M : Type 1} → statement M
 add-spec =

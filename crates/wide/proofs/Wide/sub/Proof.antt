@@ -36,10 +36,10 @@ returns c = let x = c .before .before .before .before .args in
     let first = c .before .before .before .wrapping-sub-u64 in
     let k = c .before .before .borrowed in
     back-in-two-steps (2 ^ 64) (lit< tt) (x .self .lo) (x .self .hi) (x .b .lo) (x .b .hi) (first .result) (k .result) (c .before .wrapping-sub-u642 .result) (c .wrapping-sub-u643 .result)
-      (k .ensures (first .result) (search needs) (first .ensures))
-      (search needs)
-      (c .before .wrapping-sub-u642 .ensures)
-      (c .wrapping-sub-u643 .ensures)
+    (k .ensures (first .result) (search needs) (first .ensures))
+    (search needs)
+    (c .before .wrapping-sub-u642 .ensures)
+    (c .wrapping-sub-u643 .ensures)
 
 pub sub-spec : {M : Type 1} → statement M
 sub-spec =

@@ -8,7 +8,7 @@ use Rattle.pcode.proofs.op.Op.named.Statement.{statement}
 use Rattle.pcode.proofs.op.Op.named.Tie as tie
 use Rattle.pcode.proofs.op.Op.named.Reads as reads
 use Rattle.pcode.proofs.op.Op.named.Lts as lts
-use Rattle.pcode.proofs.name.numbered.Reads as numbered-reads
+use Rattle.pcode.proofs.code.numbered.Reads as numbered-reads
 
 -- src/name.rt:416:28
 array-copy-out-t15 : tie.Need-array-copy-out-t15

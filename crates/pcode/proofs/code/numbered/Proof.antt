@@ -7,10 +7,10 @@ use mathlib.Core.List.{[], _∷_}
 use lib.ListN.{List·getD-eq-default}
 use Rattle.pcode.specs.Names.{withNumber}
 use Rattle.pcode.specs.declared.op.Op.the-variants.{Subpiece, Select, Load, Store, Branch, PcodeBranch, PcodeLabel}
-use Rattle.pcode.proofs.name.numbered.Statement.{statement}
-use Rattle.pcode.proofs.name.numbered.Tie as tie
-use Rattle.pcode.proofs.name.numbered.Reads as reads
-use Rattle.pcode.proofs.name.numbered.Lts as lts
+use Rattle.pcode.proofs.code.numbered.Statement.{statement}
+use Rattle.pcode.proofs.code.numbered.Tie as tie
+use Rattle.pcode.proofs.code.numbered.Reads as reads
+use Rattle.pcode.proofs.code.numbered.Lts as lts
 
 -- src/name.rt:459:1
 returns : tie.Need-returns
