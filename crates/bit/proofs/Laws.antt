@@ -4,7 +4,7 @@ use mathlib.Core.Path.{_≡_, refl, sym, _∙_, ap}
 use mathlib.Core.Bool.{Bool, true, false, not}
 use borrow.Author.Tests.{eq-eqb, ne-eqb, eqb-true, eqb-false}
 use lib.Dec.{eqb}
-use Rattle.bit.specs.Bits.{kinSigns, kinTests, kinOf, byKin, beside, notE, notB, andB, orB, xorB, eqB, zeroOrUnknown, oneOrUnknown}
+use Rattle.bit.specs.Bits.{kinSigns, kinTests, kinOf, byKin, notE, notB, andB, orB, xorB, eqB}
 use Rattle.bit.specs.declared.Expr.{Expr}
 use Rattle.bit.specs.declared.Kin.{Kin}
 use Rattle.bit.specs.declared.Kin.the-variants.{Same, Opposite, Unrelated}

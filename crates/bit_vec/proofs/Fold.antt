@@ -15,7 +15,7 @@ use Rattle.bit.specs.declared.Bit.the-variants.{Zero, One, Unknown, Expr as Sym
 use Rattle.bit_vec.specs.declared.known.Constant.{Constant}
 use Rattle.bit_vec.specs.declared.known.Constant.the-variants.{Known, Open}
 use Rattle.bit_vec.specs.Lists.{bits, eqDone, eqStep, eqFrom, valueOf}
-use Rattle.bit_vec.specs.Known.{twice, foldBits, consK, constFrom, constOf, oneOf, least, plus, countK, countOnes, leadK, zerosFirst, leadingZeros, trailK, trailingZeros}
+use Rattle.bit_vec.specs.Known.{foldBits, consK, constFrom, constOf, oneOf, least, plus, countK, countOnes, leadK, zerosFirst, leadingZeros, trailK, trailingZeros}
 
 -- a place i of a slice, and what lies above it
 pub bits-cons : (s : List ℕ) (i : ℕ) → i < length s → bits (drop i s) ≡ bitOf (getD s i 0) ∷ bits (drop (i + 1) s)

@@ -1,17 +1,15 @@
 -- Laws of moves: cutting and extending, the sign, truth values, digits. Assumes nothing.
-use Prim.Native.Nat.{ℕ, zero, suc, _+_, _*_, _-_, _/_, _%_, _^_, _≤_, _<_}
+use Prim.Native.Nat.{ℕ, zero, suc, _+_, _-_, _/_, _^_, _≤_, _<_}
 use mathlib.Core.Path.{_≡_, refl, sym, _∙_, ap}
 use mathlib.Core.List.{List, [], _∷_, _++_, map}
-use native.Mathlib.Numerals.{add-one}
 use native.Mathlib.Omega.{arith}
-use lib.ListN.{length, take, drop, getD, set, replicate, length-append, length-replicate, length-take, length-drop, drop-of-length-le, List·getD-eq-default, length-map}
+use lib.ListN.{length, take, getD, set, replicate, length-map}
 use lib.Pow.{shr-shr}
-use lib.Seq.{drop-cons, take-all, length-take-le}
 use Rattle.bit.specs.Bits.{codeOf, bitOf, notB}
 use Rattle.bit.specs.declared.Bit.{Bit}
 use Rattle.bit.specs.declared.Bit.the-variants.{Zero}
 use Rattle.bit_vec.specs.Lists.{bits, codes}
-use Rattle.bit_vec.specs.Moves.{fit, lastOf, truth, digit, digits, up, down, rotateLeft, rotateRight}
+use Rattle.bit_vec.specs.Moves.{fit, lastOf, truth, digit, digits}
 
 -- a copy, place by place
 pub length-fit : {A : Type 0} (z : A) (n : ℕ) (xs : List A) → length (fit z n xs) ≡ n
@@ -26,13 +24,20 @@ fit-at z (suc n) [] (suc i) h = fit-at z n [] i (omega arith)
 fit-at z (suc n) (x ∷ xs) zero h = refl
 fit-at z (suc n) (x ∷ xs) (suc i) h = fit-at z n xs i (omega arith)
 
+-- inside, what would stand past the end does not matter
+pub getD-in : (s : List ℕ) (i d : ℕ) → i < length s → getD s i 0 ≡ getD s i d
+getD-in [] i d h = absurd (omega (arith, h))
+getD-in (x ∷ s) zero d h = refl
+getD-in (x ∷ s) (suc i) d h = getD-in s i d (omega arith)
+
 -- the sign is the last element
-pub last-at : (z : ℕ) (xs : List ℕ) → 0 < length xs → getD xs (length xs - 1) 0 ≡ lastOf z xs
+pub last-at : (z : ℕ) (xs : List ℕ) → 0 < length xs → getD xs (length xs - 1) z ≡ lastOf z xs
 last-at z [] h = absurd (omega (arith, h))
 last-at z (x ∷ []) h = refl
 last-at z (x ∷ (y ∷ ys)) h =
     let q : suc (suc (length ys)) - 1 ≡ suc (suc (length ys) - 1) = omega arith in
-    rw q (last-at x (y ∷ ys) (omega arith))
+    let w : suc (length ys) - 1 < length (y ∷ ys) = omega arith in
+    rw q (sym (getD-in (y ∷ ys) (suc (length ys) - 1) z w) ∙ getD-in (y ∷ ys) (suc (length ys) - 1) x w ∙ last-at x (y ∷ ys) (omega arith))
 
 pub last-none : (z : ℕ) (xs : List ℕ) → length xs ≤ 0 → z ≡ lastOf z xs
 last-none z [] h = refl
@@ -80,12 +85,6 @@ not-at (x ∷ s) (suc i) h = not-at s i (omega arith)
 
 pub length-not : (s : List ℕ) → length (codes (map notB (bits s))) ≡ length s
 length-not s = simp length-map
-
--- inside, what would stand past the end does not matter
-pub getD-in : (s : List ℕ) (i d : ℕ) → i < length s → getD s i 0 ≡ getD s i d
-getD-in [] i d h = absurd (omega (arith, h))
-getD-in (x ∷ s) zero d h = refl
-getD-in (x ∷ s) (suc i) d h = getD-in s i d (omega arith)
 
 -- the sign of codes is the code of the sign
 pub last-bits : (z : ℕ) (xs : List ℕ) → bitOf (lastOf z xs) ≡ lastOf (bitOf z) (bits xs)

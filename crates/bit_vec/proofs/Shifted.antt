@@ -1,20 +1,20 @@
 -- Shifts and rotates: what their parts of the output come to, and each way out of a shift by an amount. Assumes nothing.
-use Prim.Native.Nat.{ℕ, zero, suc, _+_, _-_, _≤_, _<_}
+use Prim.Native.Nat.{ℕ, _+_, _-_, _≤_, _<_}
 use mathlib.Core.Path.{_≡_, refl, sym, _∙_, ap}
 use mathlib.Core.Bool.{Bool, true, false}
-use mathlib.Core.List.{List, [], _∷_, _++_, append-nil}
+use mathlib.Core.List.{List, _++_, append-nil}
 use native.Mathlib.Omega.{arith}
 use borrow.Author.Tests.{lt-leb, le-leb, leb-true}
 use borrow.Rule.Slice.PartMut.{midOf, putMid}
 use lib.Dec.{leb}
-use lib.ListN.{length, take, drop, replicate, length-replicate, length-drop, length-take, replicate-append-replicate, drop-of-length-le}
-use lib.Seq.{length-take-le, take-at, drop-at, take-all, drop-drop}
+use lib.ListN.{length, take, drop, replicate, length-replicate, length-drop, replicate-append-replicate, drop-of-length-le}
+use lib.Seq.{length-take-le, take-at, drop-at, take-all}
 use Rattle.bit.specs.Bits.{pick}
 use Rattle.bit.specs.declared.Bit.{Bit}
 use Rattle.bit_vec.specs.declared.known.Constant.{Constant}
 use Rattle.bit_vec.specs.declared.known.Constant.the-variants.{Known, Open}
 use Rattle.bit_vec.specs.Moves.{fit, up, down, rotateLeft}
-use Rattle.bit_vec.specs.Known.{constFrom, constOf, least, shiftBy, shiftOf}
+use Rattle.bit_vec.specs.Known.{constFrom, constOf, least, shiftOf}
 use Rattle.bit_vec.proofs.Moved.{fit-cut, fit-extend}
 use Rattle.bit_vec.proofs.Fold.{Good, const-good}
 
@@ -109,7 +109,7 @@ module _ (out u f : List ℕ) (m y z : ℕ) (h : m ≤ length out) (hu : u ≡ r
       ∙ rw (hu, take-replicate (length out) n y (omega arith), drop-replicate (length out) m y h) (ap (λ (t : List ℕ). replicate n y ++ t) fe)
 
 -- a known constant is the least amount
-const-least : (xs : List Bit) (k : ℕ) → constOf xs ≡ Known k → k ≡ least xs
+pub const-least : (xs : List Bit) (k : ℕ) → constOf xs ≡ Known k → k ≡ least xs
 const-least xs k = go (leb (length xs) 64) refl
   where
     go : (t : Bool) → leb (length xs) 64 ≡ t → pick t (constFrom xs) Open ≡ Known k → k ≡ least xs

@@ -1,12 +1,12 @@
 -- The loops over a slice from the lowest place up: what is stored so far, and what is to come, make the whole. Assumes nothing.
-use Prim.Native.Nat.{ℕ, zero, suc, _+_, _-_, _≤_, _<_}
+use Prim.Native.Nat.{ℕ, suc, _+_, _-_, _≤_, _<_}
 use mathlib.Core.Path.{_≡_, refl, sym, _∙_, ap}
-use mathlib.Core.List.{List, [], _∷_, _++_, map, append-assoc, append-nil}
+use mathlib.Core.List.{List, [], _∷_, _++_, append-assoc, append-nil}
 use native.Mathlib.Numerals.{add-one}
 use native.Mathlib.Omega.{arith}
-use lib.ListN.{length, take, drop, getD, set, replicate, length-set, drop-of-length-le}
-use lib.Seq.{take-suc-set, drop-set-lt, drop-cons, take-all, getD-drop}
-use Rattle.bit.specs.Bits.{notB, codeOf, bitOf}
+use lib.ListN.{length, take, drop, getD, set, length-set, drop-of-length-le}
+use lib.Seq.{take-suc-set, drop-set-lt, drop-cons, take-all}
+use Rattle.bit.specs.Bits.{codeOf, bitOf}
 use Rattle.bit.specs.declared.Bit.{Bit}
 use Rattle.bit_vec.specs.Lists.{bits, codes, scan, scanned}
 

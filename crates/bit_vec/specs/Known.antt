@@ -1,6 +1,6 @@
 -- What is known of a bit vector, and the shifts that go by it, in 01's words.
 use Prim.Native.Nat.{ℕ, zero, suc, _+_, _*_, _-_, _%_, _^_}
-use mathlib.Core.List.{List, [], _∷_, _++_, reverse}
+use mathlib.Core.List.{List, [], _∷_, reverse}
 use lib.Dec.{leb}
 use lib.ListN.{length, replicate}
 use Rattle.bit.specs.Bits.{pick}

@@ -53,7 +53,7 @@ pub fn sign(s: &[u64]) -> u64
     let zero = Bit::Zero.encode();
     let n = s.len();
     if 0 < n {
-        return s[n - 1];
+        return at(s, n - 1, zero);
     }
     zero
 }

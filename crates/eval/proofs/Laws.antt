@@ -1,16 +1,14 @@
 -- Laws that the families' proofs share: copies of the whole, zeros, sizes, names. Assumes nothing.
-use Prim.Native.Nat.{ℕ, zero, suc, _+_, _-_, _*_, _≤_, _<_, min}
+use Prim.Native.Nat.{ℕ, zero, suc, _+_, _-_, _≤_, _<_, min}
 use mathlib.Core.Path.{_≡_, refl, sym, _∙_, ap}
 use mathlib.Core.Bool.{Bool, true, false, _&&_}
-use mathlib.Core.List.{List, [], _∷_, map}
+use mathlib.Core.List.{List, [], _∷_}
 use native.Mathlib.Omega.{arith}
-use native.Mathlib.Numerals.{add-one}
 use borrow.Author.Tests.{eqb-true, leb-true, leb-false}
 use lib.Dec.{eqb, leb}
 use lib.ListN.{length, take, drop, getD, replicate, length-drop, drop-of-length-le}
 use lib.Seq.{take-all}
 use Rattle.bit.specs.Bits.{bitOf, codeOf}
-use Rattle.bit.specs.declared.Bit.{Bit}
 use Rattle.bit.specs.declared.Bit.the-variants.{Zero}
 use Rattle.bit_vec.specs.Lists.{bits, codes}
 use Rattle.bit_vec.specs.Moves.{fit}

@@ -1,2 +1,4 @@
 pub mod Laws
 pub mod Products
+pub mod Cases
+pub mod Lengths

@@ -103,6 +103,9 @@ trail-le One i n h = omega arith
 trail-le Unknown i n h = omega arith
 trail-le (Sym e) i n h = omega arith
 
+pub trailing-within : (xs : List Bit) → trailingZeros xs ≤ length xs
+trailing-within [] = omega arith
+trailing-within (x ∷ xs) = trail-le x (trailingZeros xs) (length xs) (trailing-within xs)
+
 pub trailing-le : (xs : List ℕ) → trailingZeros (bits xs) ≤ length xs
-trailing-le [] = omega arith
-trailing-le (x ∷ xs) = trail-le (bitOf x) (trailingZeros (bits xs)) (length xs) (trailing-le xs)
+trailing-le xs = omega (arith, trailing-within (bits xs), length-map xs bitOf)

@@ -1,6 +1,5 @@
 -- What each operation gives on symbolic bits, by 01's "Symbolic rules".
 use Prim.Native.Nat.{ℕ, zero, suc, _*_}
-use mathlib.Core.Bool.{Bool, true, false}
 use mathlib.Core.List.{List, map}
 use lib.Dec.{eqb, ltb}
 use lib.ListN.{length, drop, replicate}

@@ -3,3 +3,4 @@ pub mod Sizes
 pub mod Eval
 pub mod Name
 pub mod Operand
+pub mod Cases

@@ -7,7 +7,7 @@ use mathlib.Core.Bool.{Bool, true, false}
 use mathlib.Core.List.{List, [], _∷_, _++_, append-assoc}
 use lib.Dec.{ltb}
 use lib.ListN.{length, take, drop, getD, set, length-append, drop-of-length-le}
-use lib.Seq.{drop-cons, set-at, take-append-seam}
+use lib.Seq.{drop-cons, set-at, take-append-seam, take-length}
 use borrow.Author.Tests.{lt-ltb, le-ltb, ltb-true, ltb-false}
 use Rattle.pcode.specs.Var.{pick}
 use Rattle.pcode.specs.Block.{hasId}
@@ -16,7 +16,7 @@ use Rattle.pcode.specs.declared.block.Stmt.{Stmt}
 use Rattle.vars.specs.declared.Vars.{Vars}
 use Rattle.vars.specs.declared.Joined.{Joined}
 use Rattle.vars.specs.Vars.{idsOf, joinId, joinIds, rowOf, heldIds, noIds, tableOf, joined, joinedAll, overFrom, varsFrom, varsOf, namedOf, capOf}
-use Rattle.vars.proofs.Rows.{ways, has-row, join-held, join-new, join-longer, vars-more}
+use Rattle.vars.proofs.Rows.{ways, has-row, join-held, join-new, join-longer, vars-more, vars-longer}
 
 pub no-ids-length : length noIds ≡ 112
 unfolding noIds
@@ -136,3 +136,15 @@ module _ (m : ℕ) (ss : List Stmt) where
 
 pub cap-small : (m : ℕ) → capOf m ≤ 112
 cap-small m = ways (ltb m 112) (λ e. let h : m < 112 = ltb-true _ _ e in rw e (omega arith)) (λ e. rw e (omega arith))
+
+-- where all fit, no statement names a variable beyond the limit, and the table holds them all
+all-fit : (m : ℕ) (l : List VarId) (ss : List Stmt) → length (varsFrom l ss) ≤ m → overFrom m l ss ≡ length ss
+unfolding varsFrom overFrom
+all-fit m l [] h = refl
+all-fit m l (s ∷ ss) h =
+    let k = vars-longer (joinIds l (idsOf s)) ss in
+    rw (le-ltb m (length (joinIds l (idsOf s))) (omega arith)) (ap suc (all-fit m (joinIds l (idsOf s)) ss h))
+
+pub named-held : (m : ℕ) (ss : List Stmt) → length (varsOf ss) ≤ m → heldIds (namedOf m ss .vars) ≡ varsOf ss
+unfolding varsOf
+named-held m ss h = table-held (varsFrom [] (take (overFrom m [] ss) ss)) ∙ ap (λ (n : ℕ). varsFrom [] (take n ss)) (all-fit m [] ss h) ∙ ap (varsFrom []) (take-length ss)

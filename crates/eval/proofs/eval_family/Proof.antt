@@ -1,4 +1,3 @@
-use native.Mathlib.Omega.{arith}
 use Rattle.eval.proofs.Laws.{all-same, no-second}
 use Rattle.eval.specs.Eval.{done}
 use borrow.Author.Tests.{eqb-true, leb-true}

@@ -1,5 +1,4 @@
 use native.Mathlib.Omega.{arith}
-use native.Mathlib.Omega.{arith}
 use borrow.Author.Needs.{needs}
 use Rattle.bit.proofs.Expr.encode.Statement.{statement}
 use Rattle.bit.proofs.Expr.encode.Tie as tie

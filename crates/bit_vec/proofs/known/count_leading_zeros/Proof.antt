@@ -1,9 +1,7 @@
 use borrow.Author.Needs.{needs}
 use native.Mathlib.Omega.{arith}
-use lib.Seq.{take-length}
-use native.Mathlib.Omega.{arith}
-use Prim.Native.Nat.{ℕ, _≤_, _+_}
-use mathlib.Core.List.{List, reverse}
+use Prim.Native.Nat.{_≤_, _+_}
+use mathlib.Core.List.{reverse}
 use mathlib.Core.Path.{_≡_, _∙_, ap, sym}
 use lib.ListN.{length, take}
 use Rattle.bit_vec.specs.Lists.{bits, valueOf}

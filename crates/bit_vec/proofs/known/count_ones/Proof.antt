@@ -1,12 +1,11 @@
 use borrow.Author.Needs.{needs}
 use native.Mathlib.Omega.{arith}
 use lib.Seq.{drop-length}
-use native.Mathlib.Omega.{arith}
 use Prim.Native.Nat.{ℕ, _≤_, _+_}
 use mathlib.Core.List.{List}
 use mathlib.Core.Path.{_≡_, _∙_, ap, sym}
 use lib.ListN.{length, drop}
-use Rattle.bit_vec.specs.declared.known.Constant.the-variants.{Known, Open}
+use Rattle.bit_vec.specs.declared.known.Constant.the-variants.{Known}
 use Rattle.bit_vec.specs.Lists.{bits, valueOf}
 use Rattle.bit_vec.specs.Known.{countOnes}
 use Rattle.bit_vec.proofs.Fold.{count-turn, count-open, value-le}

@@ -1,5 +1,4 @@
 use Rattle.bit_vec.proofs.Moved.{getD-in}
-use native.Mathlib.Omega.{arith}
 use lib.ListN.{List·getD-eq-default}
 use mathlib.Core.Path.{sym}
 use borrow.Author.Needs.{needs}

@@ -1,5 +1,3 @@
-use borrow.Author.Needs.{needs}
-use native.Mathlib.Omega.{arith}
 use borrow.Author.Tests.{eq-eqb, ne-eqb}
 use Rattle.bit_vec.proofs.moves.lowest.Statement.{statement}
 use Rattle.bit_vec.proofs.moves.lowest.Tie as tie

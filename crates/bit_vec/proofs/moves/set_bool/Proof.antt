@@ -1,9 +1,7 @@
 use native.Mathlib.Omega.{arith}
 use Rattle.bit_vec.proofs.Moved.{truth-none, truth-set}
-use lib.ListN.{length, length-replicate}
-use native.Mathlib.Omega.{arith}
+use lib.ListN.{length}
 use Prim.Native.Nat.{_<_}
-use mathlib.Core.Path.{_≡_, _∙_, ap}
 use borrow.Author.Needs.{needs}
 use Rattle.bit_vec.proofs.moves.set_bool.Statement.{statement}
 use Rattle.bit_vec.proofs.moves.set_bool.Tie as tie

@@ -1,4 +1,3 @@
-use native.Mathlib.Omega.{arith}
 use Rattle.bit_vec.proofs.Moved.{sign-bit}
 use mathlib.Core.Path.{_≡_, _∙_, ap}
 use Rattle.bit.specs.Bits.{bitOf}

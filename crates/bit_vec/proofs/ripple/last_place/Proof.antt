@@ -1,8 +1,7 @@
 use borrow.Author.Needs.{needs}
-use native.Mathlib.Omega.{arith}
 use Rattle.bit_vec.proofs.Store.{walk, walk-end}
 use Rattle.bit_vec.specs.Lists.{bits, scanned, placeStep, lastPlace}
-use mathlib.Core.Path.{_≡_, sym, _∙_, ap}
+use mathlib.Core.Path.{_≡_, sym, _∙_}
 use lib.ListN.{length, drop}
 use Prim.Native.Nat.{_-_, _≤_}
 use Rattle.bit_vec.proofs.ripple.last_place.Statement.{statement}

@@ -1,5 +1,4 @@
 use borrow.Author.Needs.{needs}
-use native.Mathlib.Omega.{arith}
 use Rattle.bit_vec.proofs.Store.{Walked, walk-begin, walk-turn, walk-done}
 use Rattle.bit_vec.specs.Lists.{digitB, carryB}
 use Rattle.bit.specs.declared.Bit.the-variants.{Zero}

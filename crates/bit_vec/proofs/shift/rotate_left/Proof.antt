@@ -1,4 +1,3 @@
-use native.Mathlib.Omega.{arith}
 use Rattle.bit_vec.proofs.Shifted.{put-length, rotate-law}
 use borrow.Author.Needs.{needs}
 use Rattle.bit_vec.proofs.shift.rotate_left.Statement.{statement}

@@ -1,4 +1,3 @@
-use native.Mathlib.Omega.{arith}
 use Rattle.bit_vec.proofs.Shifted.{shift-all, shift-within, shift-known, shift-open}
 use Rattle.bit_vec.specs.Lists.{bits}
 use Rattle.bit_vec.specs.Moves.{up}

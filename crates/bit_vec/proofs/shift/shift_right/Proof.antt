@@ -1,9 +1,8 @@
-use native.Mathlib.Omega.{arith}
 use Rattle.bit_vec.proofs.Shifted.{shift-all, shift-within, shift-known, shift-open}
 use Rattle.bit_vec.specs.Lists.{bits}
 use Rattle.bit_vec.specs.Moves.{down}
 use Rattle.bit.specs.Bits.{codeOf}
-use Rattle.bit.specs.declared.Bit.the-variants.{Zero, Unknown}
+use Rattle.bit.specs.declared.Bit.the-variants.{Unknown}
 use borrow.Author.Needs.{needs}
 use Rattle.bit_vec.proofs.shift.shift_right.Statement.{statement}
 use Rattle.bit_vec.proofs.shift.shift_right.Tie as tie

@@ -1,4 +1,3 @@
-use native.Mathlib.Omega.{arith}
 use Rattle.bit_vec.proofs.Shifted.{low-length, low-law}
 use mathlib.Core.List.{[]}
 use borrow.Author.Needs.{needs}

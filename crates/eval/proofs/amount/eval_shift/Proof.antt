@@ -1,4 +1,3 @@
-use native.Mathlib.Omega.{arith}
 use borrow.Author.Needs.{needs}
 use Rattle.eval.proofs.amount.eval_shift.Statement.{statement}
 use Rattle.eval.proofs.amount.eval_shift.Tie as tie

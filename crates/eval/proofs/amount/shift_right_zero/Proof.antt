@@ -1,4 +1,3 @@
-use native.Mathlib.Omega.{arith}
 use borrow.Author.Needs.{needs}
 use Rattle.eval.proofs.amount.shift_right_zero.Statement.{statement}
 use Rattle.eval.proofs.amount.shift_right_zero.Tie as tie

@@ -1,4 +1,3 @@
-use native.Mathlib.Omega.{arith}
 use mathlib.Core.Path.{ap}
 use Rattle.bit_vec.specs.declared.ripple.Place.{Place}
 use borrow.Author.Needs.{needs}

@@ -1,4 +1,3 @@
-use native.Mathlib.Omega.{arith}
 use borrow.Author.Needs.{needs}
 use Rattle.eval.proofs.compare.signed_less.Statement.{statement}
 use Rattle.eval.proofs.compare.signed_less.Tie as tie

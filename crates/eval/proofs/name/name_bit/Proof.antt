@@ -1,4 +1,3 @@
-use native.Mathlib.Omega.{arith}
 use borrow.Author.Needs.{needs}
 use Rattle.eval.proofs.name.name_bit.Statement.{statement}
 use Rattle.eval.proofs.name.name_bit.Tie as tie

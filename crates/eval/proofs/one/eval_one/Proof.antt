@@ -1,4 +1,3 @@
-use native.Mathlib.Omega.{arith}
 use Rattle.eval.proofs.Laws.{fit-self}
 use borrow.Author.Tests.{eqb-true}
 use mathlib.Core.Path.{_∙_}

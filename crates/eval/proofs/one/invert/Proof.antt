@@ -1,6 +1,5 @@
-use native.Mathlib.Omega.{arith}
 use Rattle.eval.proofs.Laws.{fit-self}
-use mathlib.Core.Path.{_≡_, _∙_}
+use mathlib.Core.Path.{_∙_}
 use Rattle.bit.specs.Bits.{codeOf}
 use Rattle.bit.specs.declared.Bit.the-variants.{Zero}
 use borrow.Author.Needs.{needs}

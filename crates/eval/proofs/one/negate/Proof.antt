@@ -1,4 +1,3 @@
-use native.Mathlib.Omega.{arith}
 use Rattle.eval.proofs.Laws.{bits-zero}
 use lib.ListN.{length}
 use borrow.Author.Needs.{needs}

@@ -1,4 +1,3 @@
-use native.Mathlib.Omega.{arith}
 use Rattle.bit_vec.proofs.Shifted.{tail}
 use borrow.Author.Needs.{needs}
 use Rattle.eval.proofs.one.subpiece.Statement.{statement}

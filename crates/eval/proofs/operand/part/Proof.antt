@@ -1,7 +1,6 @@
 use native.Mathlib.Omega.{arith}
 use Rattle.eval.proofs.Laws.{part-within}
 use mathlib.Core.Path.{_∙_}
-use native.Mathlib.Omega.{arith}
 use borrow.Author.Needs.{needs}
 use Rattle.eval.proofs.operand.part.Statement.{statement}
 use Rattle.eval.proofs.operand.part.Tie as tie

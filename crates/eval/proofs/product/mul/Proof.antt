@@ -1,4 +1,3 @@
-use native.Mathlib.Omega.{arith}
 use Rattle.eval.proofs.Products.{both-known}
 use mathlib.Core.Path.{_∙_}
 use borrow.Author.Needs.{needs}

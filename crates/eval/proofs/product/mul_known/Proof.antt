@@ -1,7 +1,6 @@
 use native.Mathlib.Omega.{arith}
 use Rattle.eval.proofs.Products.{mul-zero, mul-power, mul-more, trailing-le}
 use mathlib.Core.Path.{_∙_, sym}
-use native.Mathlib.Omega.{arith}
 use borrow.Author.Needs.{needs}
 use Rattle.eval.proofs.product.mul_known.Statement.{statement}
 use Rattle.eval.proofs.product.mul_known.Tie as tie

@@ -1,5 +1,3 @@
-use borrow.Author.Needs.{needs}
-use native.Mathlib.Omega.{arith}
 use borrow.Author.Tests.{eq-eqb, ne-eqb}
 use Rattle.eval.proofs.sizes.all_same.Statement.{statement}
 use Rattle.eval.proofs.sizes.all_same.Tie as tie

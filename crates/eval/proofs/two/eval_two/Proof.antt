@@ -1,4 +1,3 @@
-use native.Mathlib.Omega.{arith}
 use borrow.Author.Needs.{needs}
 use Rattle.eval.proofs.two.eval_two.Statement.{statement}
 use Rattle.eval.proofs.two.eval_two.Tie as tie

@@ -1,4 +1,3 @@
-use native.Mathlib.Omega.{arith}
 use Rattle.eval.proofs.Laws.{fit-self}
 use mathlib.Core.Path.{_∙_}
 use Rattle.bit.specs.Bits.{codeOf}

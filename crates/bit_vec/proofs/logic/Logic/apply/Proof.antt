@@ -1,4 +1,3 @@
-use native.Mathlib.Omega.{arith}
 use borrow.Author.Needs.{needs}
 use Rattle.bit_vec.proofs.logic.Logic.apply.Statement.{statement}
 use Rattle.bit_vec.proofs.logic.Logic.apply.Tie as tie

@@ -1,4 +1,3 @@
-use native.Mathlib.Omega.{arith}
 use borrow.Author.Needs.{needs}
 use Rattle.bit_vec.proofs.ripple.Place.step.Statement.{statement}
 use Rattle.bit_vec.proofs.ripple.Place.step.Tie as tie

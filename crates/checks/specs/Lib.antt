@@ -1,0 +1,3 @@
+pub mod Statements
+pub mod Labels
+pub mod Checks

@@ -1,0 +1,7 @@
+mod Filling
+mod Rowwise
+mod Places
+mod Walking
+mod Stepping
+mod Scanning
+mod Sifting
