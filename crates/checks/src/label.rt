@@ -38,7 +38,7 @@ fn is_label(op: Op, l: PcodeLabel) -> bool
 }
 
 // Whether a label stands among the first `n` statements.
-fn has_label(stmts: [Stmt; 129], n: usize, l: PcodeLabel) -> bool
+pub fn has_label(stmts: [Stmt; 129], n: usize, l: PcodeLabel) -> bool
     ensures { λ r. ⌜ r ≡ hasLabel (take n stmts) l ⌝ }
 {
     let mut i: usize = 0;
