@@ -1,7 +1,4 @@
-mod Filling
-mod Rowwise
-mod Places
-mod Walking
-mod Stepping
-mod Scanning
-mod Sifting
+pub mod Places
+pub mod Walking
+pub mod Scanning
+pub mod Sifting

@@ -18,10 +18,10 @@ use Rattle.pcode.proofs.Ids.{sameId-true, sameId-refl}
 use Rattle.vars.specs.Vars.{idsIn, idsOf, rowOf}
 use Rattle.vars.proofs.Rows.{ways, has-here, row-apart, row-below}
 use Rattle.live_bytes.specs.Bytes.{inside, between, endOf}
-use Rattle.dead_store.specs.Rows.{isVar, partOf, noPart, rowIn}
+use Rattle.live_tables.specs.Rows.{isVar, partOf, noPart, rowIn}
 use Rattle.dead_store.specs.Stays.{names, namesId}
-use Rattle.dead_store.specs.Tables.{at}
-use Rattle.dead_store.proofs.Rowwise.{and-false}
+use Rattle.live_tables.specs.Tables.{at}
+use Rattle.live_tables.proofs.Rowwise.{and-false}
 use Rattle.live_bytes.proofs.Runs.{run-none}
 
 -- an id among two lists

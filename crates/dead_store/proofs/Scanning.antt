@@ -16,11 +16,12 @@ use Rattle.pcode.specs.declared.block.Marks.{Marks}
 use Rattle.vars.specs.declared.Vars.{Vars}
 use Rattle.vars.specs.Vars.{idsOf, rowOf, heldIds}
 use Rattle.vars.proofs.Rows.{row-below, row-at}
-use Rattle.dead_store.specs.declared.rows.Rows.{Rows}
-use Rattle.dead_store.specs.Rows.{edgeOf, isLabel, isVar, rowsOf, noId}
+use Rattle.live_tables.specs.declared.rows.Rows.{Rows}
+use Rattle.live_tables.specs.Rows.{edgeOf, isLabel, isVar, rowsOf, noId}
 use Rattle.dead_store.specs.Stays.{namesId, readFirst, persists}
-use Rattle.dead_store.specs.Tables.{FlagsAre, firstReads, noFlags}
-use Rattle.dead_store.proofs.Rowwise.{or-false}
+use Rattle.live_tables.specs.Tables.{FlagsAre, noFlags}
+use Rattle.dead_store.specs.Walks.{firstReads}
+use Rattle.live_tables.proofs.Rowwise.{or-false}
 use Rattle.dead_store.proofs.Places.{output-among, first-among, second-among, namesId-at}
 
 false-at : (n i : ℕ) → getD (replicate n false) i false ≡ false

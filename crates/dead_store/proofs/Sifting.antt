@@ -4,11 +4,11 @@ use native.Mathlib.Numerals.{add-one}
 use native.Mathlib.Omega.{arith}
 use mathlib.Core.Path.{_≡_, refl, sym, ap, _∙_}
 use mathlib.Core.Bool.{Bool, true, false}
-use mathlib.Core.List.{List, [], _∷_, _++_, append-assoc, append-nil}
+use mathlib.Core.List.{List, [], _∷_, _++_, append-nil}
 use lib.ListN.{length, getD, set, take, drop, length-append}
-use lib.Seq.{drop-cons, set-at}
 use Rattle.dead_store.specs.Stays.{Judged, judge, deadOf, without}
 use Rattle.pcode.specs.Block.{blankStmts}
+use Rattle.vars.proofs.Joining.{put-more}
 use Rattle.pcode.specs.declared.var.VarId.{VarId}
 use Rattle.pcode.specs.declared.block.Stmt.{Stmt}
 
@@ -26,9 +26,6 @@ without-more (true ∷ ks) (x ∷ xs) d zero h k = refl
 without-more (false ∷ ks) (x ∷ xs) d zero h k = refl
 without-more (true ∷ ks) (x ∷ xs) d (suc i) h k = without-more ks xs d i (omega arith) (omega arith)
 without-more (false ∷ ks) (x ∷ xs) d (suc i) h k = ap (λ l. x ∷ l) (without-more ks xs d i (omega arith) (omega arith))
-
-put-more : {A : Type 0} (l bl : List A) (x d : A) (k : ℕ) → k ≡ length l → k < length bl → set (l ++ drop k bl) k x ≡ (l ++ (x ∷ [])) ++ drop (suc k) bl
-put-more l bl x d k e h = rw (drop-cons bl k d h) (set-at l (getD bl k d) (drop (suc k) bl) x k (sym e) ∙ sym (append-assoc l (x ∷ []) (drop (suc k) bl)))
 
 module _ {A : Type 0} (ks : List Bool) (xs bl : List A) (d : A) where
   abbrev pub sofar : ℕ → List A

@@ -20,13 +20,13 @@ use Rattle.pcode.specs.declared.block.Stmt.{Stmt}
 use Rattle.pcode.proofs.Ids.{sameId-refl}
 use Rattle.vars.specs.Vars.{idsOf, rowOf}
 use Rattle.vars.proofs.Rows.{ways, has-here, row-below}
-use Rattle.dead_store.specs.declared.rows.Edge.{Edge}
-use Rattle.dead_store.specs.declared.rows.Edge.the-variants.{Inside, Branch, Label, Marker}
-use Rattle.dead_store.specs.declared.rows.Rows.{Rows}
+use Rattle.live_tables.specs.declared.rows.Edge.{Edge}
+use Rattle.live_tables.specs.declared.rows.Edge.the-variants.{Inside, Branch, Label, Marker}
+use Rattle.live_tables.specs.declared.rows.Rows.{Rows}
 use Rattle.live_bytes.specs.Bytes.{has, inside, someByte}
-use Rattle.dead_store.specs.Rows.{edgeOf, ends, isMarker, partOf, rowIn, rowsOf, RowsAre, Named, noRow}
+use Rattle.live_tables.specs.Rows.{edgeOf, ends, isMarker, partOf, rowIn, rowsOf, RowsAre, Named, noRow}
 use Rattle.dead_store.specs.Stays.{Judged, names, reads, writes, overwritten, readNext, rewritten, readLater, needed, writesSome, stays, judged, judge, deadOf}
-use Rattle.dead_store.specs.Tables.{view, at, TableIs, readsOver, acrossOver, Stepped, noSets}
+use Rattle.live_tables.specs.Tables.{view, at, TableIs, readsOver, acrossOver, Stepped, noSets}
 use Rattle.live_bytes.proofs.Bits.{has-zero}
 use Rattle.live_bytes.proofs.Runs.{any-none, any-same}
 use Rattle.dead_store.proofs.Places.{Among, output-among, first-among, second-among, no-bytes, names-at, row-small}

@@ -1,3 +1,2 @@
-pub mod Rows
 pub mod Stays
-pub mod Tables
+pub mod Walks

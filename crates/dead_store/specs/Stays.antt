@@ -16,7 +16,7 @@ use Rattle.pcode.specs.declared.block.Block.{Block}
 use Rattle.pcode.specs.declared.block.Marks.{Marks}
 use Rattle.vars.specs.Vars.{varsOf}
 use Rattle.live_bytes.specs.Bytes.{inside, someByte}
-use Rattle.dead_store.specs.Rows.{edgeOf, ends, isLabel, isMarker}
+use Rattle.live_tables.specs.Rows.{edgeOf, ends, isLabel, isMarker}
 
 -- an operand names byte k of the variable id
 abbrev pub names : Operand → VarId → ℕ → Bool

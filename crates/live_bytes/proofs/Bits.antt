@@ -10,7 +10,7 @@ use lib.Pow.{pow-lt, pow-pos, shr-shr}
 use lib.Dec.{eqb, lit<}
 use borrow.Author.Tests.{eqb-true, eqb-false, eq-eqb, ne-eqb}
 use Rattle.vars.proofs.Rows.{ways}
-use Rattle.live_bytes.specs.Bytes.{has, withByte, withoutByte}
+use Rattle.live_bytes.specs.Bytes.{has, holds, withByte, withoutByte}
 
 -- a digit after a step with a digit function f
 digit : (n : ℕ) → n % 2 < 2
@@ -122,3 +122,11 @@ ext-to (suc n) a b h k f =
 -- sets with the same bytes are the same
 pub same-bytes : (a b : ℕ) → ((k : ℕ) → has a k ≡ has b k) → a ≡ b
 same-bytes a b f = ext-to (a + b) a b (omega arith) (omega arith) f
+
+-- only one set has the bytes that a test says
+pub holds-unique : (f : ℕ → Bool) (a b : ℕ) → holds f a → holds f b → a ≡ b
+holds-unique f a b x y = same-bytes a b (λ k. x k ∙ sym (y k))
+
+-- a set with no byte is empty (has-zero is the converse)
+pub empty-bytes : (a : ℕ) → holds (λ k. false) a → eqb a 0 ≡ true
+empty-bytes a f = eq-eqb a 0 (same-bytes a 0 (λ k. f k ∙ sym (has-zero k)))

@@ -22,11 +22,11 @@ pub no-ids-length : length noIds ≡ 112
 unfolding noIds
 no-ids-length = refl
 
--- the next free place takes the id
-put-more : (l : List VarId) (x d : VarId) → length l < 112 → set (l ++ drop (length l) noIds) (length l) x ≡ (l ++ (x ∷ [])) ++ drop (suc (length l)) noIds
-put-more l x d h =
-    rw (drop-cons noIds (length l) d (omega (arith, no-ids-length)))
-    (set-at l (getD noIds (length l) d) (drop (suc (length l)) noIds) x (length l) refl ∙ sym (append-assoc l (x ∷ []) (drop (suc (length l)) noIds)))
+-- the next free place takes an element
+pub put-more : {A : Type 0} (l free : List A) (x d : A) (k : ℕ) → k ≡ length l → k < length free
+    → set (l ++ drop k free) k x ≡ (l ++ (x ∷ [])) ++ drop (suc k) free
+put-more l free x d k e h =
+    rw (drop-cons free k d h) (set-at l (getD free k d) (drop (suc k) free) x k (sym e) ∙ sym (append-assoc l (x ∷ []) (drop (suc k) free)))
 
 table-held : (l : List VarId) → heldIds (tableOf l) ≡ l
 table-held l = take-append-seam l (drop (length l) noIds)
@@ -71,7 +71,7 @@ module _ (cap : ℕ) (h : cap ≤ 112) where
         (λ t. let b : length l < cap = ltb-true _ _ t in
         rw t (record {
           over = sym (le-ltb cap _ (omega arith));
-          vars = λ f. rw (put-more l x x (omega arith), n, add-one);
+          vars = λ f. rw (put-more l noIds x x (length l) refl (omega (arith, no-ids-length)), n, add-one);
         }))
         (λ t. let b : cap ≤ length l = ltb-false _ _ t in
         rw t (record { over = sym (lt-ltb cap _ (omega arith)); vars = λ f. cc })))

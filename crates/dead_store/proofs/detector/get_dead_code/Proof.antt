@@ -9,9 +9,9 @@ use Rattle.pcode.specs.Block.{hasId, blankStmt}
 use Rattle.pcode.specs.declared.var.VarId.{VarId}
 use Rattle.vars.specs.Vars.{heldIds, varsOf}
 use Rattle.vars.proofs.Rows.{named-has}
-use Rattle.dead_store.specs.Rows.{Named}
+use Rattle.live_tables.specs.Rows.{Named}
 use Rattle.dead_store.specs.Stays.{judge, deadOf, persists}
-use Rattle.dead_store.specs.Tables.{noneDead}
+use Rattle.dead_store.specs.Walks.{noneDead}
 use borrow.Author.Needs.{needs}
 use Rattle.dead_store.proofs.detector.get_dead_code.Statement.{statement}
 use Rattle.dead_store.proofs.detector.get_dead_code.Tie as tie
@@ -19,7 +19,7 @@ use Rattle.dead_store.proofs.detector.get_dead_code.Reads as reads
 use Rattle.dead_store.proofs.detector.get_dead_code.Lts as lts
 use Rattle.dead_store.proofs.detector.walk.Reads as walk-reads
 use Rattle.dead_store.proofs.live_tmps.persists.Reads as persists-reads
-use Rattle.dead_store.proofs.rows.block_rows.Reads as block-rows-reads
+use Rattle.live_tables.proofs.rows.block_rows.Reads as block-rows-reads
 
 -- src/detector.rt:105:9
 block-rows-requires : tie.Need-block-rows-requires

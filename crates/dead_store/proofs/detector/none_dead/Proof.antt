@@ -1,7 +1,7 @@
 use borrow.Author.Needs.{needs}
 use native.Mathlib.Omega.{arith}
 use mathlib.Core.Path.{refl}
-use Rattle.dead_store.specs.Tables.{noneDead}
+use Rattle.dead_store.specs.Walks.{noneDead}
 use Rattle.dead_store.proofs.detector.none_dead.Statement.{statement}
 use Rattle.dead_store.proofs.detector.none_dead.Tie as tie
 use Rattle.dead_store.proofs.detector.none_dead.Reads as reads

@@ -9,17 +9,18 @@ use lib.Seq.{length-take-le, getD-take}
 use Rattle.pcode.specs.Block.{hasId, blankStmt}
 use Rattle.pcode.specs.declared.var.VarId.{VarId}
 use Rattle.vars.specs.Vars.{rowOf}
-use Rattle.dead_store.specs.Rows.{Named, RowsAre, rowsOf}
+use Rattle.live_tables.specs.Rows.{Named, RowsAre, rowsOf}
 use Rattle.dead_store.specs.Stays.{judge, deadOf}
-use Rattle.dead_store.specs.Tables.{Long, noneDead}
+use Rattle.live_tables.specs.Tables.{Long}
+use Rattle.dead_store.specs.Walks.{noneDead}
 use Rattle.dead_store.proofs.Walking.{Walked, walked-none, walked-more, walked-all, stepped-of}
 use Rattle.dead_store.proofs.detector.walk.Statement.{statement}
 use Rattle.dead_store.proofs.detector.walk.Tie as tie
 use Rattle.dead_store.proofs.detector.walk.Reads as reads
 use Rattle.dead_store.proofs.detector.walk.Lts as lts
 use Rattle.dead_store.proofs.detector.none_dead.Reads as none-dead-reads
-use Rattle.dead_store.proofs.detector.step.Reads as step-reads
-use Rattle.dead_store.proofs.tables.no_sets.Reads as no-sets-reads
+use Rattle.live_tables.proofs.step.step.Reads as step-reads
+use Rattle.live_tables.proofs.tables.no_sets.Reads as no-sets-reads
 
 abbrev Inv-loop : tie.InvT-loop
 Inv-loop n stmts rows persists last-write₀ live-reads₀ live-across-block₀ dead₀ i₀ last-write live-reads live-across-block dead i = (i ≤ n) × Long last-write live-reads live-across-block × ((l : List VarId) (persist : VarId → Bool) → Named l (take n stmts) → RowsAre l (take n stmts) rows → ((id : VarId) → hasId l id ≡ true → getD persists (rowOf l id) false ≡ persist id) → Walked l persist persists (take n stmts) n dead₀ i last-write live-reads live-across-block dead)

@@ -10,7 +10,7 @@ use Rattle.vars.specs.declared.Naming.{Naming}
 use Rattle.vars.specs.Vars.{heldIds, varsOf, namedOf, capOf}
 use Rattle.vars.proofs.Joining.{named-held}
 use Rattle.dead_store.specs.Stays.{judge, deadOf, persists, without, blockOf}
-use Rattle.dead_store.specs.Tables.{noneDead}
+use Rattle.dead_store.specs.Walks.{noneDead}
 use Rattle.dead_store.proofs.Sifting.{dead-length}
 use borrow.Author.Needs.{needs}
 use Rattle.dead_store.proofs.eliminate.remove_in.Statement.{statement}

@@ -12,19 +12,19 @@ use Rattle.pcode.specs.declared.var.VarId.{VarId}
 use Rattle.pcode.specs.declared.var.Operand.{Operand}
 use Rattle.pcode.specs.declared.block.Stmt.{Stmt}
 use Rattle.vars.specs.Vars.{rowOf, idsOf}
-use Rattle.dead_store.specs.declared.rows.Edge.{Edge}
-use Rattle.dead_store.specs.Rows.{Named, RowsAre, rowsOf, isLabel, isVar, edgeOf}
+use Rattle.live_tables.specs.declared.rows.Edge.{Edge}
+use Rattle.live_tables.specs.Rows.{Named, RowsAre, rowsOf, isLabel, isVar, edgeOf}
 use Rattle.dead_store.proofs.Scanning.{Scanned, scan-none, scan-all, scan-label, scan-more, no-flag, reads-flag, writes-flag}
 use Rattle.dead_store.proofs.live_tmps.live_tmps.Statement.{statement}
 use Rattle.dead_store.proofs.live_tmps.live_tmps.Tie as tie
 use Rattle.dead_store.proofs.live_tmps.live_tmps.Reads as reads
 use Rattle.dead_store.proofs.live_tmps.live_tmps.Lts as lts
 use Rattle.dead_store.proofs.live_tmps.note_reads.Reads as note-reads-reads
-use Rattle.dead_store.proofs.rows.Edge.is_label.Reads as is-label-reads
-use Rattle.dead_store.proofs.rows.edge_of.Reads as edge-of-reads
-use Rattle.dead_store.proofs.rows.is_var.Reads as is-var-reads
-use Rattle.dead_store.proofs.tables.no_flags.Reads as no-flags-reads
-use Rattle.dead_store.proofs.tables.note.Reads as note-reads
+use Rattle.live_tables.proofs.rows.Edge.is_label.Reads as is-label-reads
+use Rattle.live_tables.proofs.rows.edge_of.Reads as edge-of-reads
+use Rattle.live_tables.proofs.rows.is_var.Reads as is-var-reads
+use Rattle.live_tables.proofs.tables.no_flags.Reads as no-flags-reads
+use Rattle.live_tables.proofs.tables.note.Reads as note-reads
 use Rattle.pcode.proofs.var.Output.operand.Reads as operand-reads
 
 abbrev Inv-loop : tie.InvT-loop

@@ -1,17 +1,17 @@
-use Rattle.dead_store.specs.Rows.{isVar}
+use Rattle.live_tables.specs.Rows.{isVar}
 use native.Mathlib.Omega.{arith}
 use mathlib.Core.Path.{_≡_, refl, sym, ap, _∙_, subst}
 use mathlib.Core.Bool.{Bool, not, _&&_, false}
 use lib.ListN.{getD}
-use Rattle.dead_store.proofs.Rowwise.{reads-noted}
+use Rattle.live_tables.proofs.Rowwise.{reads-noted}
 use borrow.Author.Needs.{needs}
 use Rattle.dead_store.proofs.live_tmps.note_reads.Statement.{statement}
 use Rattle.dead_store.proofs.live_tmps.note_reads.Tie as tie
 use Rattle.dead_store.proofs.live_tmps.note_reads.Reads as reads
 use Rattle.dead_store.proofs.live_tmps.note_reads.Lts as lts
 use Rattle.dead_store.proofs.live_tmps.unwritten.Reads as unwritten-reads
-use Rattle.dead_store.proofs.rows.is_var.Reads as is-var-reads
-use Rattle.dead_store.proofs.tables.note.Reads as note-reads
+use Rattle.live_tables.proofs.rows.is_var.Reads as is-var-reads
+use Rattle.live_tables.proofs.tables.note.Reads as note-reads
 
 -- src/live_tmps.rt:44:35
 is-var-requires : tie.Need-is-var-requires

@@ -5,14 +5,14 @@ use mathlib.Core.Path.{_≡_, refl, sym, ap, _∙_}
 use mathlib.Core.Bool.{false, _||_}
 use lib.ListN.{length, getD}
 use Rattle.pcode.specs.Block.{lasting}
-use Rattle.dead_store.specs.Rows.{noId}
-use Rattle.dead_store.proofs.Filling.{Upto, upto-none, upto-more}
+use Rattle.live_tables.specs.Rows.{noId}
+use Rattle.live_tables.proofs.Filling.{Upto, upto-none, upto-more}
 use Rattle.dead_store.proofs.live_tmps.persisting.Statement.{statement}
 use Rattle.dead_store.proofs.live_tmps.persisting.Tie as tie
 use Rattle.dead_store.proofs.live_tmps.persisting.Reads as reads
 use Rattle.dead_store.proofs.live_tmps.persisting.Lts as lts
 use Rattle.dead_store.proofs.live_tmps.should_persist.Reads as should-persist-reads
-use Rattle.dead_store.proofs.tables.no_flags.Reads as no-flags-reads
+use Rattle.live_tables.proofs.tables.no_flags.Reads as no-flags-reads
 
 abbrev Inv-loop : tie.InvT-loop
 Inv-loop marks ids live out₀ i₀ out i = (i ≤ 112) × Upto false (λ j. lasting marks (getD ids j noId) || getD live j false) out₀ i out

@@ -2,7 +2,7 @@ use native.Mathlib.Omega.{arith}
 use mathlib.Core.Path.{sym, ap, _∙_}
 use mathlib.Core.Bool.{Bool, _||_}
 use Rattle.pcode.specs.Block.{lasting}
-use Rattle.dead_store.proofs.Rowwise.{or-true, or-false}
+use Rattle.live_tables.proofs.Rowwise.{or-true, or-false}
 use borrow.Author.Needs.{needs}
 use Rattle.dead_store.proofs.live_tmps.should_persist.Statement.{statement}
 use Rattle.dead_store.proofs.live_tmps.should_persist.Tie as tie
