@@ -74,11 +74,3 @@ module _ (block : List Stmt) (i : ℕ) (xs : List Stmt) where
     pub labels-stop : goodLabel block (take i block) (s .op) ≡ false → labelsFrom block i xs ≡ Refused (BadLabel i)
     unfolding labelsFrom
     labels-stop a = rw (e, a)
-
--- how many the first n of 129 are
-pub taken : (l : List Stmt) (n : ℕ) → length l ≡ 129 → length (take n l) ≡ roomOf n
-taken l n e = go (ltb n 129) refl
-  where
-    go : (t : Bool) → ltb n 129 ≡ t → length (take n l) ≡ roomOf n
-    go true h = rw h (omega (arith, length-take n l, ltb-true n 129 h))
-    go false h = rw h (omega (arith, length-take n l, ltb-false n 129 h))

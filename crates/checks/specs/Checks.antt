@@ -26,5 +26,4 @@ unfoldable pub checkOf : Limits → Block → Answer
 checkOf limits b =
     pick (ltb (roomOf (limits .stmts)) (b .count)) (Refused (TooManyStatements (roomOf (limits .stmts))))
     (elseThen (checksFrom 0 (held b))
-    (elseThen (variables (limits .vars) (held b))
-    (labelsFrom (held b) 0 (held b))))
+    (elseThen (variables (limits .vars) (held b)) (labelsFrom (held b) 0 (held b))))

@@ -6,7 +6,8 @@ use mathlib.Core.Bool.{Bool, true, false}
 use mathlib.Core.List.{List, [], _∷_}
 use borrow.Author.Tests.{lt-ltb, ltb-false, ltb-true, leb-false}
 use lib.Dec.{eqb, leb, ltb}
-use lib.ListN.{set}
+use lib.ListN.{length, take, set, length-take}
+use lib.Seq.{take-all}
 use Rattle.pcode.specs.Var.{pick}
 use Rattle.pcode.specs.Block.{pushed}
 use Rattle.pcode.specs.declared.var.VarId.{VarId}
@@ -69,3 +70,19 @@ module _ (limit line : ℕ) (r : Read) (small : limit ≤ 129) (n : Counted line
   counted-more Bad e = absurd (not-ok (BadLine line) e)
   counted-more (Mark id) e = mark-counted id e
   counted-more (Statement s) e = stmt-counted s e
+
+-- how many the first n of 129 are
+pub taken : (l : List Stmt) (n : ℕ) → length l ≡ 129 → length (take n l) ≡ roomOf n
+taken l n e = go (ltb n 129) refl
+  where
+    go : (t : Bool) → ltb n 129 ≡ t → length (take n l) ≡ roomOf n
+    go true h = rw h (omega (arith, length-take n l, ltb-true n 129 h))
+    go false h = rw h (omega (arith, length-take n l, ltb-false n 129 h))
+
+-- the room's first statements are all that are held
+pub room-take : (l : List Stmt) (n : ℕ) → length l ≡ 129 → take (roomOf n) l ≡ take n l
+room-take l n e = go (ltb n 129) refl
+  where
+    go : (t : Bool) → ltb n 129 ≡ t → take (roomOf n) l ≡ take n l
+    go true h = rw h
+    go false h = rw h (take-all 129 l (omega arith) ∙ sym (take-all n l (omega (arith, ltb-false n 129 h))))

@@ -9,7 +9,7 @@ use Rattle.vars.specs.Vars.{tooMany, capOf}
 use Rattle.vars.specs.declared.Naming.{Naming}
 use Rattle.text.specs.declared.answer.Answer.the-variants.{Refused}
 use Rattle.checks.specs.Checks.{variables}
-use Rattle.checks.proofs.Walks.{taken}
+use Rattle.text.proofs.Counts.{taken}
 use borrow.Author.Needs.{needs}
 use Rattle.checks.proofs.check.distinct.Statement.{statement}
 use Rattle.checks.proofs.check.distinct.Tie as tie
