@@ -1,0 +1,11 @@
+pub mod Ops
+pub mod Numbers
+pub mod Lists
+pub mod Logic
+pub mod Sums
+pub mod Equal
+pub mod Signed
+pub mod Shifts
+pub mod Counts
+pub mod Families
+pub mod Coded
