@@ -17,11 +17,11 @@ not-xor true false = refl
 not-xor false true = refl
 not-xor false false = refl
 
-xor-false : (v : Bool) → v xor false ≡ v
+pub xor-false : (v : Bool) → v xor false ≡ v
 xor-false true = refl
 xor-false false = refl
 
-xor-true : (v : Bool) → v xor true ≡ not v
+pub xor-true : (v : Bool) → v xor true ≡ not v
 xor-true true = refl
 xor-true false = refl
 

@@ -21,7 +21,7 @@ use Rattle.eval.specs.Eval.{signedLess}
 use Rattle.meaning.specs.Meaning.{sign, signed, inRange}
 use Rattle.concrete.proofs.Signs.{less-same, less-neg-pos, less-pos-neg, carry-pos, carry-neg, carry-pos-neg, carry-neg-pos, borrow-pos, borrow-neg, borrow-pos-neg, borrow-neg-pos}
 use Rattle.sound.specs.Sound.{Valuation, _xor_, Agree, Agrees, num}
-use Rattle.sound.proofs.Ops.{sound-not, sound-and, sound-or, sound-xor}
+use Rattle.sound.proofs.Ops.{xor-false, xor-true, sound-not, sound-and, sound-or, sound-xor}
 use Rattle.sound.proofs.Numbers.{num-lt, sign-last}
 use Rattle.sound.proofs.Lists.{last}
 use Rattle.sound.proofs.Sums.{sound-high, sound-out, rippleN}
@@ -60,10 +60,6 @@ at P a = pick (leb P (2 * a)) (negsuc (P - 1 - a)) (pos a)
 abbrev fits : ℕ → ℤ → Bool
 fits P z = ltb (2 * mag z) P
 
-xor-same : (c : Bool) → c xor false ≡ c
-xor-same true = refl
-xor-same false = refl
-
 xor-back : (c : Bool) → c xor (c xor true) ≡ true
 xor-back true = refl
 xor-back false = refl
@@ -71,10 +67,6 @@ xor-back false = refl
 xor-gone : (c : Bool) → c xor (c xor false) ≡ false
 xor-gone true = refl
 xor-gone false = refl
-
-xor-flips : (c : Bool) → c xor true ≡ not c
-xor-flips true = refl
-xor-flips false = refl
 
 module _ (P Q a b : ℕ) (even : P ≡ Q + Q) (ha : a < P) (hb : b < P) where
   -- of operands of one sign, the wrapped difference's sign is the order
@@ -100,10 +92,10 @@ module _ (P Q a b : ℕ) (even : P ≡ Q + Q) (ha : a < P) (hb : b < P) where
           p ∙ sym (lt-leb P (2 * ((a + (P - b)) % P)) (omega arith))
 
   less-law : (x y : Bool) → leb P (2 * a) ≡ x → leb P (2 * b) ≡ y → ltZ (at P a) (at P b) ≡ lessBy x y (leb P (2 * ((a + (P - b)) % P)))
-  less-law true true ea eb = less-same P Q a b even ha hb true ea eb ∙ same-sign true ea eb ∙ sym (xor-same (leb P (2 * ((a + (P - b)) % P))))
+  less-law true true ea eb = less-same P Q a b even ha hb true ea eb ∙ same-sign true ea eb ∙ sym (xor-false (leb P (2 * ((a + (P - b)) % P))))
   less-law true false ea eb = less-neg-pos P Q a b even ha hb ea eb ∙ sym (xor-back (leb P (2 * ((a + (P - b)) % P))))
   less-law false true ea eb = less-pos-neg P Q a b even ha hb ea eb ∙ sym (xor-gone (leb P (2 * ((a + (P - b)) % P))))
-  less-law false false ea eb = less-same P Q a b even ha hb false ea eb ∙ same-sign false ea eb ∙ sym (xor-same (leb P (2 * ((a + (P - b)) % P))))
+  less-law false false ea eb = less-same P Q a b even ha hb false ea eb ∙ same-sign false ea eb ∙ sym (xor-false (leb P (2 * ((a + (P - b)) % P))))
 
   at-most-law : (x y : Bool) → leb P (2 * a) ≡ x → leb P (2 * b) ≡ y → leZ (at P a) (at P b) ≡ (ltZ (at P a) (at P b) || eqb a b)
   at-most-law true true ea eb = simp (ea, eb) (at-most (P - 1 - b) (P - 1 - a) a b (λ e. omega arith) (λ e. omega arith))
@@ -122,8 +114,8 @@ module _ (P Q a b : ℕ) (even : P ≡ Q + Q) (ha : a < P) (hb : b < P) where
 
   borrow-law : (x y : Bool) → leb P (2 * a) ≡ x → leb P (2 * b) ≡ y → not (fits P (at P a -ℤ at P b)) ≡ overSub x y (leb P (2 * ((a + (P - b)) % P)))
   borrow-law true true ea eb = borrow-neg P Q a b even ha hb ea eb
-  borrow-law true false ea eb = borrow-neg-pos P Q a b even ha hb ea eb ∙ sym (xor-flips (leb P (2 * ((a + (P - b)) % P))))
-  borrow-law false true ea eb = borrow-pos-neg P Q a b even ha hb ea eb ∙ sym (xor-same (leb P (2 * ((a + (P - b)) % P))))
+  borrow-law true false ea eb = borrow-neg-pos P Q a b even ha hb ea eb ∙ sym (xor-true (leb P (2 * ((a + (P - b)) % P))))
+  borrow-law false true ea eb = borrow-pos-neg P Q a b even ha hb ea eb ∙ sym (xor-false (leb P (2 * ((a + (P - b)) % P))))
   borrow-law false false ea eb = borrow-pos P Q a b even ha hb ea eb
 
 -- signed comparisons and overflows of numbers of n bits, by signs
