@@ -11,28 +11,39 @@ use Rattle.pcode.specs.declared.block.Stmt.{Stmt}
 use Rattle.pcode.specs.declared.refusal.Refusal.the-variants.{BadLabel}
 use Rattle.text.specs.declared.answer.Answer.{Answer}
 use Rattle.text.specs.declared.answer.Answer.the-variants.{Ok, Refused}
+use Rattle.checks.specs.declared.label.LabelUse.{LabelUse}
+use Rattle.checks.specs.declared.label.LabelUse.the-variants.{None, Stands, Named}
+
+-- the label that an operation is, or that it branches to
+abbrev pub labelOf : Op → LabelUse
+labelOf (Trap t) = None
+labelOf InstructionMarker = None
+labelOf (PcodeLabel l) = Stands l
+labelOf (PcodeBranch l) = Named l
+labelOf (Branch n) = None
+labelOf (Load n) = None
+labelOf (Store n) = None
+labelOf (Call k n) = None
+labelOf (Select n) = None
+labelOf (Subpiece n) = None
+labelOf (Opaque k) = None
+labelOf (Float k) = None
+labelOf (One k) = None
+labelOf (Two k) = None
+labelOf (Divide k) = None
+labelOf (Shift k) = None
+labelOf (Rotate k) = None
+labelOf (Compare k) = None
+labelOf (BoolOf k) = None
+
+abbrev pub stands : LabelUse → Label → Bool
+stands None l = false
+stands (Stands m) l = sameLabel m l
+stands (Named m) l = false
 
 -- an operation is that label
 abbrev pub isLabel : Op → Label → Bool
-isLabel (Trap t) l = false
-isLabel InstructionMarker l = false
-isLabel (PcodeLabel m) l = sameLabel m l
-isLabel (PcodeBranch m) l = false
-isLabel (Branch n) l = false
-isLabel (Load n) l = false
-isLabel (Store n) l = false
-isLabel (Call k n) l = false
-isLabel (Select n) l = false
-isLabel (Subpiece n) l = false
-isLabel (Opaque k) l = false
-isLabel (Float k) l = false
-isLabel (One k) l = false
-isLabel (Two k) l = false
-isLabel (Divide k) l = false
-isLabel (Shift k) l = false
-isLabel (Rotate k) l = false
-isLabel (Compare k) l = false
-isLabel (BoolOf k) l = false
+isLabel op l = stands (labelOf op) l
 
 -- a label stands among statements
 unfoldable pub hasLabel : List Stmt → Label → Bool
@@ -40,26 +51,13 @@ hasLabel [] l = false
 hasLabel (s ∷ ss) l = isLabel (s .op) l || hasLabel ss l
 
 -- a label does not stand among the statements above it, a branch's label stands in the block
+abbrev pub goodUse : List Stmt → List Stmt → LabelUse → Bool
+goodUse block above None = true
+goodUse block above (Stands l) = not (hasLabel above l)
+goodUse block above (Named l) = hasLabel block l
+
 abbrev pub goodLabel : List Stmt → List Stmt → Op → Bool
-goodLabel block above (Trap t) = true
-goodLabel block above InstructionMarker = true
-goodLabel block above (PcodeLabel l) = not (hasLabel above l)
-goodLabel block above (PcodeBranch l) = hasLabel block l
-goodLabel block above (Branch n) = true
-goodLabel block above (Load n) = true
-goodLabel block above (Store n) = true
-goodLabel block above (Call k n) = true
-goodLabel block above (Select n) = true
-goodLabel block above (Subpiece n) = true
-goodLabel block above (Opaque k) = true
-goodLabel block above (Float k) = true
-goodLabel block above (One k) = true
-goodLabel block above (Two k) = true
-goodLabel block above (Divide k) = true
-goodLabel block above (Shift k) = true
-goodLabel block above (Rotate k) = true
-goodLabel block above (Compare k) = true
-goodLabel block above (BoolOf k) = true
+goodLabel block above op = goodUse block above (labelOf op)
 
 -- the first statement, from place i on, that breaks the rule
 unfoldable pub labelsFrom : List Stmt → ℕ → List Stmt → Answer

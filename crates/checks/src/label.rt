@@ -3,37 +3,54 @@ ghost use mathlib.Core.Path.{_≡_};
 ghost use mathlib.Core.Bool.{Bool, true, false};
 ghost use Prim.Native.Nat.{ℕ};
 ghost use lib.ListN.{take};
-ghost use Rattle.checks.specs.Labels.{isLabel, hasLabel, goodLabel, labelsFrom};
+ghost use Rattle.checks.specs.Labels.{labelOf, isLabel, hasLabel, goodLabel, labelsFrom};
 use pcode::block::Stmt;
 use pcode::op::Op;
 use pcode::refusal::Refusal;
 use pcode::var::PcodeLabel;
 use text::answer::Answer;
 
+// What an operation has to do with a label: it stands there, or is named by a branch.
+pub enum LabelUse {
+    None,
+    Stands(PcodeLabel),
+    Named(PcodeLabel),
+}
+
+pub fn label_of(op: Op) -> LabelUse
+    ensures { λ r. ⌜ r ≡ labelOf op ⌝ }
+{
+    match op {
+        Op::Trap(_) => LabelUse::None,
+        Op::InstructionMarker => LabelUse::None,
+        Op::PcodeLabel(l) => LabelUse::Stands(l),
+        Op::PcodeBranch(l) => LabelUse::Named(l),
+        Op::Branch(_) => LabelUse::None,
+        Op::Load(_) => LabelUse::None,
+        Op::Store(_) => LabelUse::None,
+        Op::Call(_, _) => LabelUse::None,
+        Op::Select(_) => LabelUse::None,
+        Op::Subpiece(_) => LabelUse::None,
+        Op::Opaque(_) => LabelUse::None,
+        Op::Float(_) => LabelUse::None,
+        Op::One(_) => LabelUse::None,
+        Op::Two(_) => LabelUse::None,
+        Op::Divide(_) => LabelUse::None,
+        Op::Shift(_) => LabelUse::None,
+        Op::Rotate(_) => LabelUse::None,
+        Op::Compare(_) => LabelUse::None,
+        Op::Bool(_) => LabelUse::None,
+    }
+}
+
 // Whether an operation is that label.
 fn is_label(op: Op, l: PcodeLabel) -> bool
     ensures { λ r. ⌜ r ≡ isLabel op l ⌝ }
 {
-    match op {
-        Op::Trap(_) => false,
-        Op::InstructionMarker => false,
-        Op::PcodeLabel(m) => m.same(l),
-        Op::PcodeBranch(_) => false,
-        Op::Branch(_) => false,
-        Op::Load(_) => false,
-        Op::Store(_) => false,
-        Op::Call(_, _) => false,
-        Op::Select(_) => false,
-        Op::Subpiece(_) => false,
-        Op::Opaque(_) => false,
-        Op::Float(_) => false,
-        Op::One(_) => false,
-        Op::Two(_) => false,
-        Op::Divide(_) => false,
-        Op::Shift(_) => false,
-        Op::Rotate(_) => false,
-        Op::Compare(_) => false,
-        Op::Bool(_) => false,
+    match label_of(op) {
+        LabelUse::None => false,
+        LabelUse::Stands(m) => m.same(l),
+        LabelUse::Named(_) => false,
     }
 }
 
@@ -60,26 +77,10 @@ pub fn has_label(stmts: [Stmt; 129], n: usize, l: PcodeLabel) -> bool
 fn good_label(stmts: [Stmt; 129], n: usize, i: usize, op: Op) -> bool
     ensures { λ r. ⌜ r ≡ goodLabel (take n stmts) (take i stmts) op ⌝ }
 {
-    match op {
-        Op::Trap(_) => true,
-        Op::InstructionMarker => true,
-        Op::PcodeLabel(l) => !has_label(stmts, i, l),
-        Op::PcodeBranch(l) => has_label(stmts, n, l),
-        Op::Branch(_) => true,
-        Op::Load(_) => true,
-        Op::Store(_) => true,
-        Op::Call(_, _) => true,
-        Op::Select(_) => true,
-        Op::Subpiece(_) => true,
-        Op::Opaque(_) => true,
-        Op::Float(_) => true,
-        Op::One(_) => true,
-        Op::Two(_) => true,
-        Op::Divide(_) => true,
-        Op::Shift(_) => true,
-        Op::Rotate(_) => true,
-        Op::Compare(_) => true,
-        Op::Bool(_) => true,
+    match label_of(op) {
+        LabelUse::None => true,
+        LabelUse::Stands(l) => !has_label(stmts, i, l),
+        LabelUse::Named(l) => has_label(stmts, n, l),
     }
 }
 

@@ -17,14 +17,14 @@ pub printed-none : (ss : List Stmt) → [] ≡ printed (take 0 ss)
 unfolding printed
 printed-none ss = refl
 
-snoc : (ss : List Stmt) (s : Stmt) → printed ss ++ recordText s ≡ printed (ss ++ (s ∷ []))
+pub printed-snoc : (ss : List Stmt) (s : Stmt) → printed ss ++ recordText s ≡ printed (ss ++ (s ∷ []))
 unfolding printed
-snoc [] s = sym (append-nil (recordText s))
-snoc (x ∷ ss) s = append-assoc (recordText x) (printed ss) (recordText s) ∙ ap (λ (l : List ℕ). recordText x ++ l) (snoc ss s)
+printed-snoc [] s = sym (append-nil (recordText s))
+printed-snoc (x ∷ ss) s = append-assoc (recordText x) (printed ss) (recordText s) ∙ ap (λ (l : List ℕ). recordText x ++ l) (printed-snoc ss s)
 
 pub printed-more : (ss : List Stmt) (i : ℕ) → i < length ss → printed (take i ss) ++ recordText (getD ss i blankStmt) ≡ printed (take (i + 1) ss)
 printed-more ss i h =
-    snoc (take i ss) (getD ss i blankStmt)
+    printed-snoc (take i ss) (getD ss i blankStmt)
     ∙ ap printed (sym (take-suc ss i blankStmt h) ∙ ap (λ (k : ℕ). take k ss) (sym (add-one i)))
 
 -- a text written at the start of a buffer with room is what printing promises

@@ -3,6 +3,7 @@ ghost use mathlib.Core.Path.{_≡_};
 ghost use Prim.Native.Nat.{ℕ, _+_, _*_, _<_, _≤_};
 ghost use lib.ListN.{length, take};
 ghost use Rattle.pcode.specs.Block.{held};
+ghost use Rattle.print.specs.Rooms.{opRoom, operandsRoom, recordRoom, refusalRoom};
 ghost use Rattle.print.specs.Texts.{Wrote};
 ghost use Rattle.print.specs.Printing.{opText, operandsText, recordText, printed, refusalText, Print};
 use crate::put::byte;
@@ -33,8 +34,8 @@ pub const REFUSAL: usize = 32;
 
 // Operation and number, each with its tab.
 fn op_fields(out: &mut [u8], at: usize, op: Op) -> usize
-    requires { ⌜ at + 28 ≤ length (now out) ⌝ }
-    ensures { λ r. ⌜ Wrote 28 (now (out .entry)) at (opText op) (now (out .exit)) r ⌝ }
+    requires { ⌜ at + opRoom ≤ length (now out) ⌝ }
+    ensures { λ r. ⌜ Wrote opRoom (now (out .entry)) at (opText op) (now (out .exit)) r ⌝ }
 {
     let a = name(out, at, op.code());
     let b = byte(out, a, b'\t');
@@ -44,8 +45,8 @@ fn op_fields(out: &mut [u8], at: usize, op: Op) -> usize
 
 // Output, first and second, parted by tabs, and the LF.
 fn operand_fields(out: &mut [u8], at: usize, o: Operand, x: Operand, y: Operand) -> usize
-    requires { ⌜ at + 78 ≤ length (now out) ⌝ }
-    ensures { λ r. ⌜ Wrote 78 (now (out .entry)) at (operandsText o x y) (now (out .exit)) r ⌝ }
+    requires { ⌜ at + operandsRoom ≤ length (now out) ⌝ }
+    ensures { λ r. ⌜ Wrote operandsRoom (now (out .entry)) at (operandsText o x y) (now (out .exit)) r ⌝ }
 {
     let a = operand(out, at, o);
     let b = byte(out, a, b'\t');
@@ -57,8 +58,8 @@ fn operand_fields(out: &mut [u8], at: usize, o: Operand, x: Operand, y: Operand)
 
 // One record and its LF.
 fn record(out: &mut [u8], at: usize, s: Stmt) -> usize
-    requires { ⌜ at + 106 ≤ length (now out) ⌝ }
-    ensures { λ r. ⌜ Wrote 106 (now (out .entry)) at (recordText s) (now (out .exit)) r ⌝ }
+    requires { ⌜ at + recordRoom ≤ length (now out) ⌝ }
+    ensures { λ r. ⌜ Wrote recordRoom (now (out .entry)) at (recordText s) (now (out .exit)) r ⌝ }
 {
     let op = s.op;
     let output = s.output;
@@ -71,8 +72,8 @@ fn record(out: &mut [u8], at: usize, s: Stmt) -> usize
 
 // The first `n` records.
 fn records(out: &mut [u8], stmts: [Stmt; 129], n: usize) -> usize
-    requires { ⌜ (n ≤ 129) × (106 * n ≤ length (now out)) ⌝ }
-    ensures { λ r. ⌜ Wrote (106 * n) (now (out .entry)) 0 (printed (take n stmts)) (now (out .exit)) r ⌝ }
+    requires { ⌜ (n ≤ 129) × (recordRoom * n ≤ length (now out)) ⌝ }
+    ensures { λ r. ⌜ Wrote (recordRoom * n) (now (out .entry)) 0 (printed (take n stmts)) (now (out .exit)) r ⌝ }
 {
     let mut at: usize = 0;
     let mut i: usize = 0;
@@ -86,7 +87,7 @@ fn records(out: &mut [u8], stmts: [Stmt; 129], n: usize) -> usize
 
 // The first `count` statements, where the buffer has room.
 fn statements(stmts: [Stmt; 129], count: usize, out: &mut [u8]) -> Printed
-    ensures { λ r. ⌜ Print (106 * length (take count stmts)) (printed (take count stmts)) (now (out .entry)) (now (out .exit)) r ⌝ }
+    ensures { λ r. ⌜ Print (recordRoom * length (take count stmts)) (printed (take count stmts)) (now (out .entry)) (now (out .exit)) r ⌝ }
 {
     let n = text::read::room(count);
     if out.len() < RECORD * n {
@@ -97,7 +98,7 @@ fn statements(stmts: [Stmt; 129], count: usize, out: &mut [u8]) -> Printed
 
 // A block's records, one a line.
 pub fn print(block: Block, out: &mut [u8]) -> Printed
-    ensures { λ r. ⌜ Print (106 * length (held block)) (printed (held block)) (now (out .entry)) (now (out .exit)) r ⌝ }
+    ensures { λ r. ⌜ Print (recordRoom * length (held block)) (printed (held block)) (now (out .entry)) (now (out .exit)) r ⌝ }
 {
     let stmts = block.stmts;
     let n = block.count;
@@ -106,7 +107,7 @@ pub fn print(block: Block, out: &mut [u8]) -> Printed
 
 // `refused`, tab, number, tab, place.
 pub fn refusal(why: Refusal, out: &mut [u8]) -> Printed
-    ensures { λ r. ⌜ Print 32 (refusalText why) (now (out .entry)) (now (out .exit)) r ⌝ }
+    ensures { λ r. ⌜ Print refusalRoom (refusalText why) (now (out .entry)) (now (out .exit)) r ⌝ }
 {
     if out.len() < REFUSAL {
         return Printed::NoRoom;

@@ -4,6 +4,7 @@ ghost use mathlib.Core.List.{List, [], _∷_};
 ghost use Prim.Native.Nat.{ℕ, _+_, _<_, _≤_};
 ghost use lib.ListN.{length};
 ghost use Rattle.pcode.specs.Names.{nameOf, numberOf};
+ghost use Rattle.print.specs.Rooms.{nameRoom, numberRoom, idRoom, constRoom, varRoom, operandRoom};
 ghost use Rattle.print.specs.Texts.{Wrote, digitsText, magOf, idText, numberText, constText, varText, operandText};
 use pcode::name::Number;
 use pcode::name::name_byte;
@@ -60,8 +61,8 @@ pub fn copy(out: &mut [u8], at: usize, s: &[u8]) -> usize
 
 // The name with that code.
 pub fn name(out: &mut [u8], at: usize, code: usize) -> usize
-    requires { ⌜ at + 21 ≤ length (now out) ⌝ }
-    ensures { λ r. ⌜ Wrote 21 (now (out .entry)) at (nameOf code) (now (out .exit)) r ⌝ }
+    requires { ⌜ at + nameRoom ≤ length (now out) ⌝ }
+    ensures { λ r. ⌜ Wrote nameRoom (now (out .entry)) at (nameOf code) (now (out .exit)) r ⌝ }
 {
     let n = name_len(code);
     let mut i: usize = 0;
@@ -74,8 +75,8 @@ pub fn name(out: &mut [u8], at: usize, code: usize) -> usize
 
 // An operation's number, or `-`.
 pub fn number(out: &mut [u8], at: usize, op: Op) -> usize
-    requires { ⌜ at + 5 ≤ length (now out) ⌝ }
-    ensures { λ r. ⌜ Wrote 5 (now (out .entry)) at (numberText (numberOf op)) (now (out .exit)) r ⌝ }
+    requires { ⌜ at + numberRoom ≤ length (now out) ⌝ }
+    ensures { λ r. ⌜ Wrote numberRoom (now (out .entry)) at (numberText (numberOf op)) (now (out .exit)) r ⌝ }
 {
     match op.number() {
         Number::None => byte(out, at, b'-'),
@@ -94,8 +95,8 @@ fn magnitude(id: VarId) -> u64
 }
 
 fn id(out: &mut [u8], at: usize, v: VarId) -> usize
-    requires { ⌜ at + 6 ≤ length (now out) ⌝ }
-    ensures { λ r. ⌜ Wrote 6 (now (out .entry)) at (idText (v .0)) (now (out .exit)) r ⌝ }
+    requires { ⌜ at + idRoom ≤ length (now out) ⌝ }
+    ensures { λ r. ⌜ Wrote idRoom (now (out .entry)) at (idText (v .0)) (now (out .exit)) r ⌝ }
 {
     let m = magnitude(v);
     let zero = VarId(0);
@@ -107,8 +108,8 @@ fn id(out: &mut [u8], at: usize, v: VarId) -> usize
 }
 
 fn constant(out: &mut [u8], at: usize, v: u64, n: u8) -> usize
-    requires { ⌜ at + 25 ≤ length (now out) ⌝ }
-    ensures { λ r. ⌜ Wrote 25 (now (out .entry)) at (constText v n) (now (out .exit)) r ⌝ }
+    requires { ⌜ at + constRoom ≤ length (now out) ⌝ }
+    ensures { λ r. ⌜ Wrote constRoom (now (out .entry)) at (constText v n) (now (out .exit)) r ⌝ }
 {
     let p = byte(out, at, b'c');
     let q = decimal(out, p, v, 20);
@@ -117,8 +118,8 @@ fn constant(out: &mut [u8], at: usize, v: u64, n: u8) -> usize
 }
 
 fn variable(out: &mut [u8], at: usize, v: VarNode) -> usize
-    requires { ⌜ at + 15 ≤ length (now out) ⌝ }
-    ensures { λ r. ⌜ Wrote 15 (now (out .entry)) at (varText v) (now (out .exit)) r ⌝ }
+    requires { ⌜ at + varRoom ≤ length (now out) ⌝ }
+    ensures { λ r. ⌜ Wrote varRoom (now (out .entry)) at (varText v) (now (out .exit)) r ⌝ }
 {
     let i = v.id;
     let o = v.offset;
@@ -133,8 +134,8 @@ fn variable(out: &mut [u8], at: usize, v: VarNode) -> usize
 
 // An operand, or `-`.
 pub fn operand(out: &mut [u8], at: usize, a: Operand) -> usize
-    requires { ⌜ at + 25 ≤ length (now out) ⌝ }
-    ensures { λ r. ⌜ Wrote 25 (now (out .entry)) at (operandText a) (now (out .exit)) r ⌝ }
+    requires { ⌜ at + operandRoom ≤ length (now out) ⌝ }
+    ensures { λ r. ⌜ Wrote operandRoom (now (out .entry)) at (operandText a) (now (out .exit)) r ⌝ }
 {
     match a {
         Operand::None => byte(out, at, b'-'),

@@ -35,25 +35,11 @@ fn second_pass(input: &[u8], out: &mut [u8]) -> usize {
     }
 }
 
-fn same(a: &[u8], b: &[u8]) -> bool {
-    if a.len() != b.len() {
-        return false;
-    }
-    let mut i = 0;
-    while i < a.len() {
-        if a[i] != b[i] {
-            return false;
-        }
-        i += 1;
-    }
-    true
-}
-
 // Whether the second pass's answer to an input is the recorded one.
 pub fn second(input: &[u8], want: &[u8], out: &mut [u8]) -> bool {
     let n = second_pass(input, out);
     if out.len() < n {
         return false;
     }
-    same(&out[..n], want)
+    record::name::same(&out[..n], want)
 }

@@ -3,7 +3,6 @@ ghost use Prim.Native.Nat.{_+_, _≤_, _<_};
 ghost use mathlib.Core.Path.{_≡_};
 ghost use lib.ListN.{length};
 
-mod sections; // sections.rt: the sections of a list
 mod cases; // cases.rt: one input, treated and compared
 
 use libc::STDIN_FILENO;
@@ -32,26 +31,17 @@ fn page() -> [u8; 16384]
 fn replay(list: &[u8], out: &mut [u8]) -> Tally {
     let mut answers: u64 = 0;
     let mut agree: u64 = 0;
-    let mut from: usize = 0;
-    let mut to: usize = 0;
     let mut at: usize = 0;
     while at < list.len() {
-        let s = sections::next(list, at);
-        let name = s.name;
-        let start = s.start;
-        let end = s.end;
+        let c = sections::next_case(list, b's', at);
+        let from = c.from;
+        let to = c.to;
+        let start = c.start;
+        let end = c.end;
         if end <= at {
             return Tally { answers, agree };
         }
         at = end;
-        if name == b'i' {
-            from = start;
-            to = end;
-            continue;
-        }
-        if name != b's' {
-            continue;
-        }
         answers = std::num::wrapping_add_u64(answers, 1);
         let same = cases::second(&list[from..to], &list[start..end], out);
         if !same {

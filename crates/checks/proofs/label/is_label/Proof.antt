@@ -1,210 +1,56 @@
 use native.Mathlib.Omega.{arith}
 use mathlib.Core.Path.{sym, ap, _∙_}
-use Rattle.pcode.specs.declared.op.Op.{Op}
-use Rattle.checks.specs.Labels.{isLabel}
+use Rattle.checks.specs.Labels.{stands}
+use Rattle.checks.specs.declared.label.LabelUse.{LabelUse}
 use borrow.Author.Needs.{needs}
 use Rattle.checks.proofs.label.is_label.Statement.{statement}
 use Rattle.checks.proofs.label.is_label.Tie as tie
 use Rattle.checks.proofs.label.is_label.Reads as reads
 use Rattle.checks.proofs.label.is_label.Lts as lts
+use Rattle.checks.proofs.label.label_of.Reads as label-of-reads
 use Rattle.pcode.proofs.var.PcodeLabel.same.Reads as same-reads
 
--- src/label.rt:18:24
+-- src/label.rt:50:11
+label-of-requires : tie.Need-label-of-requires
+label-of-requires c κs = search needs
+
+-- src/label.rt:51:27
 enum-told : tie.Need-enum-told
 enum-told c = search needs
 
--- src/label.rt:19:34
-enum-told-2 : tie.Need-enum-told-2
-enum-told-2 c = search needs
+-- src/label.rt:52:26
+enum-known-m : tie.Need-enum-known-m
+enum-known-m c = search needs
 
--- src/label.rt:20:24
-enum-known-op : tie.Need-enum-known-op
-enum-known-op c = search needs
-
--- src/label.rt:20:30
+-- src/label.rt:52:32
 same-requires : tie.Need-same-requires
 same-requires c κs = search needs
 
--- src/label.rt:21:31
-enum-told-3 : tie.Need-enum-told-3
-enum-told-3 c = search needs
+-- src/label.rt:53:31
+enum-told-2 : tie.Need-enum-told-2
+enum-told-2 c = search needs
 
--- src/label.rt:22:26
-enum-told-4 : tie.Need-enum-told-4
-enum-told-4 c = search needs
-
--- src/label.rt:23:24
-enum-told-5 : tie.Need-enum-told-5
-enum-told-5 c = search needs
-
--- src/label.rt:24:25
-enum-told-6 : tie.Need-enum-told-6
-enum-told-6 c = search needs
-
--- src/label.rt:25:27
-enum-told-7 : tie.Need-enum-told-7
-enum-told-7 c = search needs
-
--- src/label.rt:26:26
-enum-told-8 : tie.Need-enum-told-8
-enum-told-8 c = search needs
-
--- src/label.rt:27:28
-enum-told-9 : tie.Need-enum-told-9
-enum-told-9 c = search needs
-
--- src/label.rt:28:26
-enum-told-10 : tie.Need-enum-told-10
-enum-told-10 c = search needs
-
--- src/label.rt:29:25
-enum-told-11 : tie.Need-enum-told-11
-enum-told-11 c = search needs
-
--- src/label.rt:30:23
-enum-told-12 : tie.Need-enum-told-12
-enum-told-12 c = search needs
-
--- src/label.rt:31:23
-enum-told-13 : tie.Need-enum-told-13
-enum-told-13 c = search needs
-
--- src/label.rt:32:26
-enum-told-14 : tie.Need-enum-told-14
-enum-told-14 c = search needs
-
--- src/label.rt:33:25
-enum-told-15 : tie.Need-enum-told-15
-enum-told-15 c = search needs
-
--- src/label.rt:34:26
-enum-told-16 : tie.Need-enum-told-16
-enum-told-16 c = search needs
-
--- src/label.rt:35:27
-enum-told-17 : tie.Need-enum-told-17
-enum-told-17 c = search needs
-
--- src/label.rt:36:24
-enum-told-18 : tie.Need-enum-told-18
-enum-told-18 c = search needs
-
--- src/label.rt:14:1
+-- src/label.rt:47:1
 returns : tie.Need-returns
 returns c = search needs
 
--- src/label.rt:14:1
+-- src/label.rt:47:1
 returns-2 : tie.Need-returns-2
-returns-2 c = search needs
+returns-2 c = c .same .ensures ∙ sym (ap (λ (u : LabelUse). stands u (c .before .before .before .before .before .args .l)) (sym (c .before .before .before .before .label-of .ensures) ∙ c .before .before .m .given .1))
 
--- src/label.rt:14:1
+-- src/label.rt:47:1
 returns-3 : tie.Need-returns-3
-returns-3 c = c .same .ensures ∙ sym (ap (λ (o : Op). isLabel o (c .before .before .before .before .args .l)) (c .before .before .op .given .1))
-
--- src/label.rt:14:1
-returns-4 : tie.Need-returns-4
-returns-4 c = search needs
-
--- src/label.rt:14:1
-returns-5 : tie.Need-returns-5
-returns-5 c = search needs
-
--- src/label.rt:14:1
-returns-6 : tie.Need-returns-6
-returns-6 c = search needs
-
--- src/label.rt:14:1
-returns-7 : tie.Need-returns-7
-returns-7 c = search needs
-
--- src/label.rt:14:1
-returns-8 : tie.Need-returns-8
-returns-8 c = search needs
-
--- src/label.rt:14:1
-returns-9 : tie.Need-returns-9
-returns-9 c = search needs
-
--- src/label.rt:14:1
-returns-10 : tie.Need-returns-10
-returns-10 c = search needs
-
--- src/label.rt:14:1
-returns-11 : tie.Need-returns-11
-returns-11 c = search needs
-
--- src/label.rt:14:1
-returns-12 : tie.Need-returns-12
-returns-12 c = search needs
-
--- src/label.rt:14:1
-returns-13 : tie.Need-returns-13
-returns-13 c = search needs
-
--- src/label.rt:14:1
-returns-14 : tie.Need-returns-14
-returns-14 c = search needs
-
--- src/label.rt:14:1
-returns-15 : tie.Need-returns-15
-returns-15 c = search needs
-
--- src/label.rt:14:1
-returns-16 : tie.Need-returns-16
-returns-16 c = search needs
-
--- src/label.rt:14:1
-returns-17 : tie.Need-returns-17
-returns-17 c = search needs
-
--- src/label.rt:14:1
-returns-18 : tie.Need-returns-18
-returns-18 c = search needs
-
--- src/label.rt:14:1
-returns-19 : tie.Need-returns-19
-returns-19 c = search needs
+returns-3 c = search needs
 
 pub is-label-spec : {M : Type 1} → statement M
 is-label-spec =
     tie.close
     (tie.spec
+    label-of-requires
     enum-told
-    enum-told-2
-    enum-known-op
+    enum-known-m
     same-requires
-    enum-told-3
-    enum-told-4
-    enum-told-5
-    enum-told-6
-    enum-told-7
-    enum-told-8
-    enum-told-9
-    enum-told-10
-    enum-told-11
-    enum-told-12
-    enum-told-13
-    enum-told-14
-    enum-told-15
-    enum-told-16
-    enum-told-17
-    enum-told-18
+    enum-told-2
     returns
     returns-2
-    returns-3
-    returns-4
-    returns-5
-    returns-6
-    returns-7
-    returns-8
-    returns-9
-    returns-10
-    returns-11
-    returns-12
-    returns-13
-    returns-14
-    returns-15
-    returns-16
-    returns-17
-    returns-18
-    returns-19)
+    returns-3)

@@ -6,7 +6,7 @@ use Rattle.replay.proofs.cases.second.Statement.{statement}
 use Rattle.replay.proofs.cases.second.Tie as tie
 use Rattle.replay.proofs.cases.second.Reads as reads
 use Rattle.replay.proofs.cases.second.Lts as lts
-use Rattle.replay.proofs.cases.same.Reads as same-reads
+use Rattle.record.proofs.name.same.Reads as same-reads
 use Rattle.replay.proofs.cases.second_pass.Reads as second-pass-reads
 
 -- src/cases.rt:54:9

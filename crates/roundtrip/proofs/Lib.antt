@@ -1,0 +1,15 @@
+pub mod Parts
+pub mod Digits
+pub mod Names
+pub mod Ops
+pub mod Inverse
+pub mod Sizes
+pub mod Operands
+pub mod Fields
+pub mod Records
+pub mod Marks
+pub mod Lines
+pub mod PrintRead
+pub mod OperandsBack
+pub mod RecordsBack
+pub mod ReadPrint

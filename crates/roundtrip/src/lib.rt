@@ -1,0 +1,1 @@
+// No code: that printing and reading undo each other stands in specs/ and proofs/.

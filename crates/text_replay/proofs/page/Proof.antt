@@ -1,0 +1,11 @@
+use mathlib.Core.Path.{sym}
+use Prim.Native.Nat.{ℕ}
+use lib.ListN.{length-replicate}
+use Rattle.text_replay.proofs.page.Statement.{statement}
+use Rattle.text_replay.proofs.page.Tie as tie
+
+returns : tie.Need-returns
+returns c = sym (length-replicate {A = ℕ} 16384 0)
+
+pub page-spec : {M : Type 1} → statement M
+page-spec = tie.close (tie.spec returns)
