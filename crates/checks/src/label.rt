@@ -44,7 +44,7 @@ pub fn label_of(op: Op) -> LabelUse
 }
 
 // Whether an operation is that label.
-fn is_label(op: Op, l: PcodeLabel) -> bool
+pub fn is_label(op: Op, l: PcodeLabel) -> bool
     ensures { λ r. ⌜ r ≡ isLabel op l ⌝ }
 {
     match label_of(op) {

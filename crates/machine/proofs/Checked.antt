@@ -25,11 +25,7 @@ use Rattle.checks.specs.Statements.{goodSize, goodNode, goodOperand, there}
 use Rattle.concrete.specs.Fits.{Alone, Both, Grows, Applies}
 use Rattle.state.specs.Bytes.{numOf, readOf}
 use Rattle.state.proofs.Digits.{below}
-use Rattle.machine.specs.Values.{valueIn}
-
--- every byte of every row is below 256
-abbrev pub Bytes : List (List ℕ) → Type 0
-Bytes rows = (r k : ℕ) → getD (getD rows r []) k 0 < 256
+use Rattle.machine.specs.Values.{valueIn, Bytes}
 
 power : (n : ℕ) → 256 ^ n ≡ 2 ^ (8 * n)
 power zero = refl

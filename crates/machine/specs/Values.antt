@@ -3,7 +3,7 @@ use Prim.Native.Nat.{ℕ, _+_, _*_, _^_, _<_, _≤_}
 use mathlib.Core.Path.{_≡_}
 use mathlib.Core.Bool.{true}
 use mathlib.Core.List.{List, []}
-use lib.ListN.{length}
+use lib.ListN.{length, getD}
 use Rattle.pcode.specs.Var.{cut, sizeOf, sizeOut}
 use Rattle.pcode.specs.Block.{hasId}
 use Rattle.pcode.specs.declared.var.VarId.{VarId}
@@ -33,6 +33,10 @@ written ids rows (Out.Var o) v = writeOf rows (rowOf ids (o .id)) (o .offset) (o
 unfoldable pub resultIn : List VarId → List (List ℕ) → Stmt → ℕ
 resultIn ids rows s =
     meaning (s .op) (8 * sizeOf (s .first)) (8 * sizeOut (s .output)) (valueIn ids rows (s .first)) (valueIn ids rows (s .second))
+
+-- every byte of every row is below 256
+abbrev pub Bytes : List (List ℕ) → Type 0
+Bytes rows = (r k : ℕ) → getD (getD rows r []) k 0 < 256
 
 -- a part lies in a row of a table of at most 112
 pub record Held (ids : List VarId) (v : VarNode) : Type 0 where

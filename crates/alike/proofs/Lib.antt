@@ -1,0 +1,17 @@
+pub mod Bools
+pub mod Fits
+pub mod Havoc
+pub mod Parts
+pub mod Tables
+pub mod Seen
+pub mod Deals
+pub mod Elim
+pub mod Judging
+pub mod Fresh
+pub mod Fewer
+pub mod Second
+pub mod Checked
+pub mod Starts
+pub mod Both
+pub mod Kept
+pub mod Examples

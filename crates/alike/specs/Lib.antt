@@ -1,0 +1,4 @@
+pub mod ById
+pub mod Alike
+pub mod Premises
+pub mod Examples

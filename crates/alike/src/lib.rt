@@ -1,0 +1,1 @@
+// No code: that a treated block runs alike stands in specs/ and proofs/.

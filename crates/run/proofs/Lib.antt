@@ -1,0 +1,4 @@
+pub mod Bytes
+pub mod Ready
+pub mod Going
+pub mod Ended
