@@ -1,0 +1,4 @@
+pub mod Least
+pub mod Marked
+pub mod Lists
+pub mod Walks
