@@ -28,7 +28,7 @@ step m l ss true e g rest = absurd (not-suc-le-zero g)
 step m l ss false e g rest = rest (ltb-false m (length l) e) (le-of-suc-le-suc g)
 
 -- a statement list that passes no limit names at most that many variables
-within : (m : ℕ) (l : List VarId) (ss : List Stmt) → length l ≤ m → length ss ≤ overFrom m l ss → length (varsFrom l ss) ≤ m
+pub within : (m : ℕ) (l : List VarId) (ss : List Stmt) → length l ≤ m → length ss ≤ overFrom m l ss → length (varsFrom l ss) ≤ m
 unfolding overFrom varsFrom
 within m l [] h g = h
 within m l (s ∷ ss) h g = step m (joinIds l (idsOf s)) ss (ltb m (length (joinIds l (idsOf s)))) refl g (within m (joinIds l (idsOf s)) ss)
@@ -38,23 +38,23 @@ code : Answer → Bool
 code Ok = true
 code (Refused why) = false
 
-never : {why : Refusal} → Refused why ≡ Ok → ⊥
+pub never : {why : Refusal} → Refused why ≡ Ok → ⊥
 unfolding code
 never e = true≢false (sym (ap code e))
 
-first-ok : (t : Bool) (why : Refusal) (next : Answer) → pick t (Refused why) next ≡ Ok → (t ≡ false) × (next ≡ Ok)
+pub first-ok : (t : Bool) (why : Refusal) (next : Answer) → pick t (Refused why) next ≡ Ok → (t ≡ false) × (next ≡ Ok)
 first-ok true why next e = absurd (never e)
 first-ok false why next e = (refl, e)
 
-then-ok : (t : Bool) (why : Refusal) (next : Answer) → pick t next (Refused why) ≡ Ok → (t ≡ true) × (next ≡ Ok)
+pub then-ok : (t : Bool) (why : Refusal) (next : Answer) → pick t next (Refused why) ≡ Ok → (t ≡ true) × (next ≡ Ok)
 then-ok true why next e = (refl, e)
 then-ok false why next e = absurd (never e)
 
-both-ok : (a next : Answer) → elseThen a next ≡ Ok → (a ≡ Ok) × (next ≡ Ok)
+pub both-ok : (a next : Answer) → elseThen a next ≡ Ok → (a ≡ Ok) × (next ≡ Ok)
 both-ok Ok next e = (refl, e)
 both-ok (Refused why) next e = absurd (never e)
 
-last-ok : (t : Bool) (why : Refusal) → pick t (Refused why) Ok ≡ Ok → t ≡ false
+pub last-ok : (t : Bool) (why : Refusal) → pick t (Refused why) Ok ≡ Ok → t ≡ false
 last-ok t why e = first-ok t why Ok e .0
 
 few : (ss : List Stmt) → variables 112 ss ≡ Ok → length (varsOf ss) ≤ 112
@@ -67,7 +67,7 @@ pub record Good (s : Stmt) : Type 0 where
   pub needs : metNeeds s ≡ true
   pub sizes : goodSizes s ≡ true
 
-good : (i : ℕ) (s : Stmt) → stmtCheck i s ≡ Ok → Good s
+pub good : (i : ℕ) (s : Stmt) → stmtCheck i s ≡ Ok → Good s
 unfolding stmtCheck
 good i s e =
     let x = then-ok (goodParts s) _ _ e in
@@ -75,7 +75,7 @@ good i s e =
     let z = then-ok (goodSizes s) _ _ (y .1) in
     record { parts = x .0; needs = y .0; sizes = z .0 }
 
-every : (k : ℕ) (ss : List Stmt) → checksFrom k ss ≡ Ok → (i : ℕ) → i < length ss → Good (getD ss i blankStmt)
+pub every : (k : ℕ) (ss : List Stmt) → checksFrom k ss ≡ Ok → (i : ℕ) → i < length ss → Good (getD ss i blankStmt)
 unfolding checksFrom
 every k [] e i h = absurd (omega arith)
 every k (s ∷ ss) e zero h = good k s (both-ok (stmtCheck k s) (checksFrom (k + 1) ss) e .0)

@@ -1,1 +1,3 @@
 pub mod Second
+pub mod First
+pub mod Both
