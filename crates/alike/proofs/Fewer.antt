@@ -23,11 +23,11 @@ fit-without (true ∷ bs) (s ∷ ss) f = fit-without bs ss (f .1)
 fit-without (false ∷ bs) (s ∷ ss) f = (f .0, fit-without bs ss (f .1))
 
 -- one list's ids are among another's
-abbrev Within : List VarId → List VarId → Type 0
+abbrev pub Within : List VarId → List VarId → Type 0
 Within l m = (id : VarId) → hasId l id ≡ true → hasId m id ≡ true
 
 -- an id past one more
-has-snoc : (l : List VarId) (x id : VarId) → hasId (l ++ (x ∷ [])) id ≡ (hasId l id || sameId x id)
+pub has-snoc : (l : List VarId) (x id : VarId) → hasId (l ++ (x ∷ [])) id ≡ (hasId l id || sameId x id)
 unfolding hasId
 has-snoc [] x id = ways (sameId x id) (λ e. rw e) (λ e. rw e)
 has-snoc (y ∷ l) x id = ways (sameId y id) (λ e. rw e) (λ e. rw e (has-snoc l x id))
@@ -57,7 +57,7 @@ vars-within l m (true ∷ bs) (s ∷ ss) h = vars-within l (joinIds m (idsOf s))
 vars-within l m (false ∷ bs) (s ∷ ss) h = vars-within (joinIds l (idsOf s)) (joinIds m (idsOf s)) bs ss (joins-within l m (idsOf s) h)
 
 -- no id stands twice
-abbrev Distinct : List VarId → Type 0
+abbrev pub Distinct : List VarId → Type 0
 Distinct [] = Unit {0}
 Distinct (x ∷ l) = (hasId l x ≡ false) × Distinct l
 
@@ -81,7 +81,7 @@ unfolding joinIds
 distinct-joins l [] d = d
 distinct-joins l (x ∷ xs) d = distinct-joins (joinId l x) xs (distinct-join l x d)
 
-distinct-vars : (l : List VarId) (ss : List Stmt) → Distinct l → Distinct (varsFrom l ss)
+pub distinct-vars : (l : List VarId) (ss : List Stmt) → Distinct l → Distinct (varsFrom l ss)
 unfolding varsFrom
 distinct-vars l [] d = d
 distinct-vars l (s ∷ ss) d = distinct-vars (joinIds l (idsOf s)) ss (distinct-joins l (idsOf s) d)
@@ -104,7 +104,7 @@ less-has (y ∷ m) x id e n =
     (λ t. let q : sameId y id ≡ false = ap (λ (i : VarId). sameId i id) (sameId-true y x t) ∙ n in rw t (sym (rw q) ∙ e))
     (λ t. rw t (ways (sameId y id) (λ u. rw u) (λ u. rw u (less-has m x id (sym (rw u) ∙ e) n))))
 
-fewer : (l m : List VarId) → Distinct l → Within l m → length l ≤ length m
+pub fewer : (l m : List VarId) → Distinct l → Within l m → length l ≤ length m
 unfolding hasId
 fewer [] m d h = omega arith
 fewer (x ∷ l) m d h =

@@ -43,12 +43,12 @@ use Rattle.alike.proofs.Checked.{all-fit}
 abbrev SameLabels : List Stmt → List Stmt → Type 0
 SameLabels a a′ = (l : PcodeLabel) → hasLabel a′ l ≡ hasLabel a l
 
-has-append : (a b : List Stmt) (l : PcodeLabel) → hasLabel (a ++ b) l ≡ (hasLabel a l || hasLabel b l)
+pub has-append : (a b : List Stmt) (l : PcodeLabel) → hasLabel (a ++ b) l ≡ (hasLabel a l || hasLabel b l)
 unfolding hasLabel
 has-append [] b l = refl
 has-append (s ∷ a) b l = ways (isLabel (s .op) l) (λ t. rw t) (λ t. rw t (has-append a b l))
 
-has-one : (s : Stmt) (l : PcodeLabel) → hasLabel (s ∷ []) l ≡ isLabel (s .op) l
+pub has-one : (s : Stmt) (l : PcodeLabel) → hasLabel (s ∷ []) l ≡ isLabel (s .op) l
 unfolding hasLabel
 has-one s l = ways (isLabel (s .op) l) (λ t. rw t) (λ t. rw t)
 
@@ -64,7 +64,7 @@ with-dropped a a′ s e h l =
     h l ∙ sym (or-false (hasLabel a l)) ∙ ap (λ (b : Bool). hasLabel a l || b) (sym (has-one s l ∙ not-label (s .op) l e)) ∙ sym (has-append a (s ∷ []) l)
 
 -- each statement passes a test of those above it
-abbrev AllPass : (List Stmt → Op → Bool) → List Stmt → List Stmt → Type 0
+abbrev pub AllPass : (List Stmt → Op → Bool) → List Stmt → List Stmt → Type 0
 AllPass f above [] = Unit {0}
 AllPass f above (s ∷ ss) = (f above (s .op) ≡ true) × AllPass f (above ++ (s ∷ [])) ss
 
@@ -140,7 +140,7 @@ module _ (block : List Stmt) where
   place : (a : List Stmt) (s : Stmt) → length (a ++ (s ∷ [])) ≡ length a + 1
   place a s = length-append a (s ∷ [])
 
-  labels-pass : (a ss : List Stmt) → a ++ ss ≡ block → labelsFrom block (length a) ss ≡ Ok → AllPass (goodLabel block) a ss
+  pub labels-pass : (a ss : List Stmt) → a ++ ss ≡ block → labelsFrom block (length a) ss ≡ Ok → AllPass (goodLabel block) a ss
   unfolding labelsFrom
   labels-pass a [] q e = tt
   labels-pass a (s ∷ ss) q e =
@@ -149,7 +149,7 @@ module _ (block : List Stmt) where
         labels-pass (a ++ (s ∷ [])) ss (next-is a s ss q) (ap (λ (n : ℕ). labelsFrom block n ss) (place a s) ∙ x .1),
       )
 
-  labels-ok : (a ss : List Stmt) → a ++ ss ≡ block → AllPass (goodLabel block) a ss → labelsFrom block (length a) ss ≡ Ok
+  pub labels-ok : (a ss : List Stmt) → a ++ ss ≡ block → AllPass (goodLabel block) a ss → labelsFrom block (length a) ss ≡ Ok
   unfolding labelsFrom
   labels-ok a [] q h = refl
   labels-ok a (s ∷ ss) q h =
@@ -160,7 +160,7 @@ module _ (block : List Stmt) where
     abbrev runs : List Stmt → Op → Bool
     runs above op = not (outside c above op)
 
-    runs-pass : (a ss : List Stmt) → a ++ ss ≡ block → length a + length ss ≤ firstOutside c block (length a) ss → AllPass runs a ss
+    pub runs-pass : (a ss : List Stmt) → a ++ ss ≡ block → length a + length ss ≤ firstOutside c block (length a) ss → AllPass runs a ss
     unfolding firstOutside
     runs-pass a [] q h = tt
     runs-pass a (s ∷ ss) q h =
@@ -171,7 +171,7 @@ module _ (block : List Stmt) where
         by true e k rest = absurd (omega arith)
         by false e k rest = (ap (λ (b : List Stmt). runs b (s .op)) (sym (above-is a (s ∷ ss) q)) ∙ ap not e, rest (omega arith))
 
-    runs-ok : (a ss : List Stmt) → a ++ ss ≡ block → AllPass runs a ss → length a + length ss ≤ firstOutside c block (length a) ss
+    pub runs-ok : (a ss : List Stmt) → a ++ ss ≡ block → AllPass runs a ss → length a + length ss ≤ firstOutside c block (length a) ss
     unfolding firstOutside
     runs-ok a [] q h = rw (add-zero (length a)) (omega arith)
     runs-ok a (s ∷ ss) q h =
@@ -236,7 +236,7 @@ few-vars m l (s ∷ ss) h =
     let k = vars-longer (joinIds l (idsOf s)) ss in
     rw (le-ltb m (length (joinIds l (idsOf s))) (omega arith)) (ap suc (few-vars m (joinIds l (idsOf s)) ss h))
 
-vars-ok : (ss : List Stmt) → length (varsOf ss) ≤ 112 → variables 112 ss ≡ Ok
+pub vars-ok : (ss : List Stmt) → length (varsOf ss) ≤ 112 → variables 112 ss ≡ Ok
 unfolding variables varsOf
 vars-ok ss h = rw (few-vars 112 [] ss h, le-ltb (length ss) (length ss) (omega arith))
 

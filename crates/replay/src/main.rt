@@ -5,6 +5,7 @@ ghost use lib.ListN.{length};
 
 mod cases; // cases.rt: one input, treated and compared
 
+use front::Pass;
 use libc::STDIN_FILENO;
 use libc::STDOUT_FILENO;
 
@@ -28,12 +29,23 @@ fn page() -> [u8; 16384]
     [0u8; 16384]
 }
 
-fn replay(list: &[u8], out: &mut [u8]) -> Tally {
+// The passes whose recorded answers have that first letter.
+fn pass_of(letter: u8) -> Pass {
+    if letter == b'f' {
+        return Pass::First;
+    }
+    if letter == b's' {
+        return Pass::Second;
+    }
+    Pass::Both
+}
+
+fn replay(list: &[u8], letter: u8, out: &mut [u8]) -> Tally {
     let mut answers: u64 = 0;
     let mut agree: u64 = 0;
     let mut at: usize = 0;
     while at < list.len() {
-        let c = sections::next_case(list, b's', at);
+        let c = sections::next_case(list, letter, at);
         let from = c.from;
         let to = c.to;
         let start = c.start;
@@ -43,7 +55,7 @@ fn replay(list: &[u8], out: &mut [u8]) -> Tally {
         }
         at = end;
         answers = std::num::wrapping_add_u64(answers, 1);
-        let same = cases::second(&list[from..to], &list[start..end], out);
+        let same = cases::agrees(pass_of(letter), &list[from..to], &list[start..end], out);
         if !same {
             continue;
         }
@@ -52,14 +64,22 @@ fn replay(list: &[u8], out: &mut [u8]) -> Tally {
     Tally { answers, agree }
 }
 
-fn main() {
-    let mut list = room();
-    let mut out = page();
-    let n = io::read_full(STDIN_FILENO, &mut list);
-    let tally = replay(&list[..n], &mut out);
-    io::write_all(STDOUT_FILENO, b"second pass: answers ");
+fn show(tally: Tally) {
+    io::write_all(STDOUT_FILENO, b" answers ");
     io::print_decimal(STDOUT_FILENO, tally.answers);
     io::write_all(STDOUT_FILENO, b", agree ");
     io::print_decimal(STDOUT_FILENO, tally.agree);
     io::write_all(STDOUT_FILENO, b"\n");
+}
+
+fn main() {
+    let mut list = room();
+    let mut out = page();
+    let n = io::read_full(STDIN_FILENO, &mut list);
+    io::write_all(STDOUT_FILENO, b"first pass:");
+    show(replay(&list[..n], b'f', &mut out));
+    io::write_all(STDOUT_FILENO, b"second pass:");
+    show(replay(&list[..n], b's', &mut out));
+    io::write_all(STDOUT_FILENO, b"both passes:");
+    show(replay(&list[..n], b'b', &mut out));
 }

@@ -1,95 +1,100 @@
-use Prim.Native.Nat.{ℕ, _≤_, _<_, _-_}
-use native.Mathlib.Omega.{arith}
 use borrow.Author.Needs.{needs}
+use native.Mathlib.Omega.{arith}
+use Prim.Native.Nat.{ℕ, _≤_, _<_, _-_}
 use mathlib.Core.Path.{_≡_}
 use lib.ListN.{length}
 use Rattle.replay.proofs.replay.Statement.{statement}
 use Rattle.replay.proofs.replay.Tie as tie
 use Rattle.replay.proofs.replay.Reads as reads
 use Rattle.replay.proofs.replay.Lts as lts
-use Rattle.replay.proofs.cases.second.Reads as second-reads
+use Rattle.replay.proofs.cases.agrees.Reads as agrees-reads
+use Rattle.replay.proofs.pass_of.Reads as pass-of-reads
 use Rattle.sections.proofs.next_case.Reads as next-case-reads
 use Rattle.std.proofs.num.wrapping_add_u64.Reads as wrapping-add-u64-reads
 
 abbrev Inv-loop : tie.InvT-loop
-Inv-loop list out₀ answers₀ agree₀ at₀ out answers agree at = length out ≡ length out₀
+Inv-loop list letter out₀ answers₀ agree₀ at₀ out answers agree at = length out ≡ length out₀
 
 abbrev μ-loop : tie.MeasureT-loop
-μ-loop list out₀ answers₀ agree₀ at₀ out answers agree at = length list - at
+μ-loop list letter out₀ answers₀ agree₀ at₀ out answers agree at = length list - at
 
--- src/main.rt:35:5
+-- src/main.rt:47:5
 loop-holds : tie.Need-loop-holds Inv-loop μ-loop
 loop-holds c = search needs
 
--- src/main.rt:36:13
+-- src/main.rt:48:13
 next-case-requires : tie.Need-next-case-requires Inv-loop μ-loop
 next-case-requires c κs = search needs
 
--- src/main.rt:42:13
+-- src/main.rt:54:13
 same-length : tie.Need-same-length Inv-loop μ-loop
 same-length c = search needs
 
--- src/main.rt:42:13
+-- src/main.rt:54:13
 returns : tie.Need-returns Inv-loop μ-loop
 returns c = search needs
 
--- src/main.rt:45:9
+-- src/main.rt:57:9
 wrapping-add-u64-requires : tie.Need-wrapping-add-u64-requires Inv-loop μ-loop
 wrapping-add-u64-requires c κs = search needs
 
--- src/main.rt:46:34
-sub-second : tie.Need-sub-second Inv-loop μ-loop
-sub-second c = search needs
+-- src/main.rt:58:34
+pass-of-requires : tie.Need-pass-of-requires Inv-loop μ-loop
+pass-of-requires c κs = search needs
 
--- src/main.rt:46:34
-part-second-start : tie.Need-part-second-start Inv-loop μ-loop
-part-second-start c = search needs
+-- src/main.rt:58:51
+sub-agrees : tie.Need-sub-agrees Inv-loop μ-loop
+sub-agrees c = search needs
 
--- src/main.rt:46:34
-part-second-end : tie.Need-part-second-end Inv-loop μ-loop
-part-second-end c = search needs
+-- src/main.rt:58:51
+part-agrees-start : tie.Need-part-agrees-start Inv-loop μ-loop
+part-agrees-start c = search needs
 
--- src/main.rt:46:51
-sub-second-2 : tie.Need-sub-second-2 Inv-loop μ-loop
-sub-second-2 c = search needs
+-- src/main.rt:58:51
+part-agrees-end : tie.Need-part-agrees-end Inv-loop μ-loop
+part-agrees-end c = search needs
 
--- src/main.rt:46:51
-part-second-start-2 : tie.Need-part-second-start-2 Inv-loop μ-loop
-part-second-start-2 c = search needs
+-- src/main.rt:58:68
+sub-agrees-2 : tie.Need-sub-agrees-2 Inv-loop μ-loop
+sub-agrees-2 c = search needs
 
--- src/main.rt:46:51
-part-second-end-2 : tie.Need-part-second-end-2 Inv-loop μ-loop
-part-second-end-2 c = search needs
+-- src/main.rt:58:68
+part-agrees-start-2 : tie.Need-part-agrees-start-2 Inv-loop μ-loop
+part-agrees-start-2 c = search needs
 
--- src/main.rt:46:13
-second-requires : tie.Need-second-requires Inv-loop μ-loop
-second-requires c κs = search needs
+-- src/main.rt:58:68
+part-agrees-end-2 : tie.Need-part-agrees-end-2 Inv-loop μ-loop
+part-agrees-end-2 c = search needs
 
--- src/main.rt:35:5
+-- src/main.rt:58:13
+agrees-requires : tie.Need-agrees-requires Inv-loop μ-loop
+agrees-requires c κs = search needs
+
+-- src/main.rt:47:5
 loop-less : tie.Need-loop-less Inv-loop μ-loop
 loop-less c = search needs
 
--- src/main.rt:35:5
+-- src/main.rt:47:5
 loop-again : tie.Need-loop-again Inv-loop μ-loop
 loop-again c = search needs
 
--- src/main.rt:50:9
+-- src/main.rt:62:9
 wrapping-add-u64-requires-2 : tie.Need-wrapping-add-u64-requires-2 Inv-loop μ-loop
 wrapping-add-u64-requires-2 c κs = search needs
 
--- src/main.rt:35:5
+-- src/main.rt:47:5
 loop-less-2 : tie.Need-loop-less-2 Inv-loop μ-loop
 loop-less-2 c = search needs
 
--- src/main.rt:35:5
+-- src/main.rt:47:5
 loop-again-2 : tie.Need-loop-again-2 Inv-loop μ-loop
 loop-again-2 c = search needs
 
--- src/main.rt:31:1
+-- src/main.rt:43:1
 same-length-2 : tie.Need-same-length-2 Inv-loop μ-loop
 same-length-2 c = search needs
 
--- src/main.rt:31:1
+-- src/main.rt:43:1
 returns-2 : tie.Need-returns-2 Inv-loop μ-loop
 returns-2 c = search needs
 
@@ -104,13 +109,14 @@ replay-spec =
     same-length
     returns
     wrapping-add-u64-requires
-    sub-second
-    part-second-start
-    part-second-end
-    sub-second-2
-    part-second-start-2
-    part-second-end-2
-    second-requires
+    pass-of-requires
+    sub-agrees
+    part-agrees-start
+    part-agrees-end
+    sub-agrees-2
+    part-agrees-start-2
+    part-agrees-end-2
+    agrees-requires
     loop-less
     loop-again
     wrapping-add-u64-requires-2

@@ -1,0 +1,13 @@
+pub mod Held
+pub mod Fine
+pub mod Comes
+pub mod Gives
+pub mod Ids
+pub mod Walk
+pub mod First
+pub mod Added
+pub mod Targets
+pub mod Labels
+pub mod Checked
+pub mod Runs
+pub mod Inside
