@@ -20,6 +20,3 @@ pub mod Passing
 pub mod Least
 pub mod Walks
 pub mod Checked
-pub mod Fitting
-pub mod Instructions
-pub mod Inside
