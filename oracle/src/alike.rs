@@ -20,7 +20,7 @@ pub struct Tally {
     outside: usize,
     /// Blocks that the first pass refuses, or with a number that the original can't hold.
     untreated: usize,
-    /// Blocks that the original and the model treat differently.
+    /// Blocks that two ways treat differently.
     unequal: usize,
     stale: usize,
     runs: usize,
@@ -40,21 +40,31 @@ fn branches_inside(block: &Block) -> bool {
     })
 }
 
-/// The block as the original treats it, held against the model; as the faulty model treats it if a fault is planted.
-fn treat(block: &Block, fault: Fault, tally: &mut Tally) -> Option<Vec<Stmt>> {
+/// What a way to treat a block came to.
+#[derive(Default)]
+pub struct Treated {
+    /// The treated block; none where it was refused, or a number can't be held.
+    pub stmts: Option<Vec<Stmt>>,
+    /// Two ways to treat it were compared and differed.
+    pub unequal: bool,
+}
+
+/// As the original treats it, held against the model; as the faulty model treats it if a fault is planted.
+pub fn by_original(block: &Block, fault: Fault) -> Treated {
     if fault != Fault::None {
-        return model::both_with(block, fault).ok();
+        return Treated { stmts: model::both_with(block, fault).ok(), unequal: false };
     }
     match original::both(block) {
         Outcome::Treated(stmts) => {
-            tally.unequal += (model::both(block).as_ref() != Ok(&stmts)) as usize;
-            Some(stmts)
+            let unequal = model::both(block).as_ref() != Ok(&stmts);
+            Treated { stmts: Some(stmts), unequal }
         }
-        _ => None,
+        _ => Treated::default(),
     }
 }
 
-pub fn alike(seed: u64, count: u64, fault: Fault) -> Tally {
+/// Runs generated blocks and what `treat` makes of them side by side.
+pub fn alike(seed: u64, count: u64, mut treat: impl FnMut(&Block, &mut Rng) -> Treated) -> Tally {
     let kinds = ["load", "store", "exit", "marker", "end"];
     let mut tally = Tally { events: kinds.map(|kind| (kind, 0)), ..Tally::default() };
     for case in 0..count {
@@ -66,7 +76,9 @@ pub fn alike(seed: u64, count: u64, fault: Fault) -> Tally {
             tally.outside += 1;
             continue;
         }
-        match treat(&block, fault, &mut tally) {
+        let treated = treat(&block, &mut rng);
+        tally.unequal += treated.unequal as usize;
+        match treated.stmts {
             None => tally.untreated += 1,
             Some(stmts) => tally.run_both(&mut rng, &block, &block.with(stmts)),
         }

@@ -4,6 +4,7 @@
 pub mod agree;
 pub mod alike;
 pub mod answers;
+pub mod arguments;
 pub mod block;
 pub mod checks;
 pub mod gen;

@@ -3,13 +3,13 @@
 use oracle::agree;
 use oracle::alike;
 use oracle::answers::{self, Pass};
+use oracle::arguments::{fail, Arguments};
 use oracle::gen::{self, damaged};
-use oracle::model::fault::Fault;
 use oracle::record;
 use oracle::rng::Rng;
 use oracle::run::start::Start;
 use oracle::{original, replay, sections, text};
-use std::io::{self, BufWriter, Read, Write};
+use std::io::{self, BufWriter, Write};
 use std::process::ExitCode;
 
 const USAGE: &str = "usage:
@@ -23,67 +23,6 @@ const USAGE: &str = "usage:
   oracle agree-eval --seed S --count N
   oracle replay FILE [--fault F]
   oracle alike --seed S --count N [--fault F]";
-
-/// The arguments behind the subcommand: one file, and options with a value each.
-struct Arguments {
-    files: Vec<String>,
-    options: Vec<(String, String)>,
-}
-
-impl Arguments {
-    fn new(mut rest: impl Iterator<Item = String>) -> Option<Self> {
-        let mut arguments = Self { files: Vec::new(), options: Vec::new() };
-        while let Some(word) = rest.next() {
-            match word.strip_prefix("--") {
-                Some(name) => arguments.options.push((name.to_string(), rest.next()?)),
-                None => arguments.files.push(word),
-            }
-        }
-        Some(arguments)
-    }
-
-    fn option(&self, name: &str) -> Option<&str> {
-        self.options.iter().find(|(n, _)| n == name).map(|(_, value)| value.as_str())
-    }
-
-    fn number(&self, name: &str, default: u64) -> u64 {
-        let number = self.option(name).map(str::parse);
-        number.unwrap_or(Ok(default)).unwrap_or_else(|_| fail(&format!("--{name} takes a number")))
-    }
-
-    fn seed(&self) -> u64 {
-        self.number("seed", 1)
-    }
-
-    fn count(&self) -> u64 {
-        self.number("count", 1000)
-    }
-
-    fn fault(&self) -> Fault {
-        match self.option("fault") {
-            None => Fault::None,
-            Some(name) => Fault::from_name(name).unwrap_or_else(|| fail("no such fault")),
-        }
-    }
-
-    /// The bytes of the n-th file, or of standard input if there is no first.
-    fn file(&self, n: usize) -> io::Result<Vec<u8>> {
-        match self.files.get(n) {
-            Some(path) => std::fs::read(path),
-            None if n > 0 => Ok(Vec::new()),
-            None => {
-                let mut bytes = Vec::new();
-                io::stdin().read_to_end(&mut bytes)?;
-                Ok(bytes)
-            }
-        }
-    }
-}
-
-fn fail(message: &str) -> ! {
-    eprintln!("{message}");
-    std::process::exit(2);
-}
 
 fn generate(arguments: &Arguments, out: &mut impl Write) -> io::Result<()> {
     let seed = arguments.seed();
@@ -139,7 +78,8 @@ fn replay_file(arguments: &Arguments, out: &mut impl Write) -> io::Result<()> {
 
 /// Runs blocks and treated blocks side by side; failing is finding a run that differs.
 fn run_alike(arguments: &Arguments, out: &mut impl Write) -> io::Result<()> {
-    let tally = alike::alike(arguments.seed(), arguments.count(), arguments.fault());
+    let fault = arguments.fault();
+    let tally = alike::alike(arguments.seed(), arguments.count(), |block, _| alike::by_original(block, fault));
     write!(out, "{}", tally.report())?;
     if tally.held() {
         Ok(())

@@ -12,7 +12,7 @@ use Rattle.text.specs.declared.answer.Read.{Read}
 use Rattle.print.specs.Printing.{Print}
 use Rattle.print.specs.declared.print.Printed.{Printed}
 use Rattle.optimizer.specs.declared.second.Treated.{Treated}
-use Rattle.front.specs.Front.{Told, limitOf, treatOf, toldBlock, toldRefusal, toldBy, answerBy, answerOf}
+use Rattle.front.specs.Front.{Told, limitOf, endBy, endOf, toldBlock, toldRefusal, toldBy, answerOf}
 use Rattle.front.specs.declared.Pass.{Pass}
 
 -- what was printed is what is told
@@ -21,11 +21,11 @@ telling t u old new r e p = subst (λ (z : Told). Print (z .room) (z .text) old 
 
 -- by what was read
 pub read-is : (p : Pass) (bytes : List ℕ) (n : ℕ) (r : Read) (a : Answer) → n ≡ limitOf p → r ≡ readOf n bytes → r .answer ≡ a
-    → answerBy a p (r .block) (r .marks) ≡ answerOf p bytes
-unfolding answerOf
+    → endBy a p (r .block) (r .marks) ≡ endOf p bytes
+unfolding endOf
 read-is p bytes n r a en er ea =
-    ap (λ (z : Answer). answerBy z p (r .block) (r .marks)) (sym ea)
-    ∙ ap (λ (z : Read). answerBy (z .answer) p (z .block) (z .marks)) (er ∙ ap (λ (k : ℕ). readOf k bytes) en)
+    ap (λ (z : Answer). endBy z p (r .block) (r .marks)) (sym ea)
+    ∙ ap (λ (z : Read). endBy (z .answer) p (z .block) (z .marks)) (er ∙ ap (λ (k : ℕ). readOf k bytes) en)
 
 -- an end of a file: a block's text, or one refusal's line
 pub data End : Told → Type 0 where
@@ -38,15 +38,4 @@ told-end (Refused why) b = line why
 
 -- every file of bytes gets an end
 pub ends : (p : Pass) (bytes : List ℕ) → End (answerOf p bytes)
-unfolding answerOf
-ends p bytes = go (readOf (limitOf p) bytes .answer)
-  where
-    b : Block
-    b = readOf (limitOf p) bytes .block
-
-    m : Marks
-    m = readOf (limitOf p) bytes .marks
-
-    go : (a : Answer) → End (answerBy a p b m)
-    go Ok = told-end (treatOf p b m .answer) (treatOf p b m .block)
-    go (Refused why) = line why
+ends p bytes = told-end (endOf p bytes .answer) (endOf p bytes .block)

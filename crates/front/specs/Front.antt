@@ -31,6 +31,15 @@ treatOf First b m = firstOf b m
 treatOf Second b m = secondOf b m
 treatOf Both b m = bothOf b m
 
+-- what was read, treated; or the reader's refusal
+abbrev pub endBy : Answer → Pass → Block → Marks → Treated
+endBy Ok p b m = treatOf p b m
+endBy (Refused why) p b m = record { answer = Refused why; block = b }
+
+-- what becomes of a file of bytes
+unfoldable pub endOf : Pass → List ℕ → Treated
+endOf p bytes = endBy (readOf (limitOf p) bytes .answer) p (readOf (limitOf p) bytes .block) (readOf (limitOf p) bytes .marks)
+
 -- a text, and the room that is asked for it
 pub record Told : Type 0 where
   pub room : ℕ
@@ -48,11 +57,6 @@ abbrev pub toldBy : Answer → Block → Told
 toldBy Ok b = toldBlock b
 toldBy (Refused why) b = toldRefusal why
 
--- what was read, treated; or the reader's refusal
-abbrev pub answerBy : Answer → Pass → Block → Marks → Told
-answerBy Ok p b m = toldBy (treatOf p b m .answer) (treatOf p b m .block)
-answerBy (Refused why) p b m = toldRefusal why
-
 -- a file of bytes, answered
-unfoldable pub answerOf : Pass → List ℕ → Told
-answerOf p bytes = answerBy (readOf (limitOf p) bytes .answer) p (readOf (limitOf p) bytes .block) (readOf (limitOf p) bytes .marks)
+abbrev pub answerOf : Pass → List ℕ → Told
+answerOf p bytes = toldBy (endOf p bytes .answer) (endOf p bytes .block)
