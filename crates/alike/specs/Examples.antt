@@ -1,8 +1,10 @@
 -- Worked examples: what meets each premise and what breaks it, and two blocks that do not run alike where one is broken.
-use Prim.Native.Nat.{ℕ}
+use Prim.Native.Nat.{ℕ, _-_, _^_}
+use native.Mathlib.Omega.{arith}
 use mathlib.Core.Path.{_≡_, refl}
 use mathlib.Core.Bool.{true, false}
 use mathlib.Core.List.{List, [], _∷_}
+use lib.Dec.{lit<}
 use lib.IntN.{pos, negsuc}
 use lib.ListN.{getD, replicate}
 use Rattle.pcode.specs.Var.{eqZ}
@@ -23,35 +25,35 @@ use Rattle.state.specs.Bytes.{numOf, bytesOf, readOf, writeOf}
 use Rattle.step.specs.Events.{Stored, Ended}
 use Rattle.step.specs.Steps.{stepOf}
 use Rattle.run.specs.Run.{runFrom, runOf}
-use Rattle.alike.specs.Premises.{reaches, inOneInstruction, readsFresh, freshRun}
+use Rattle.alike.specs.Premises.{reaches, inOneInstruction, readsFresh, freshRun, AllShort}
 
 -- two lasting variables and a temporary
-abbrev v1 : VarId
+abbrev pub v1 : VarId
 v1 = record { 0 = pos 1 }
 
-abbrev v2 : VarId
+abbrev pub v2 : VarId
 v2 = record { 0 = pos 2 }
 
-abbrev t : VarId
+abbrev pub t : VarId
 t = record { 0 = negsuc 0 }
 
 -- the lowest byte of a variable
-abbrev byte : VarId → Operand
+abbrev pub byte : VarId → Operand
 byte id = Var (record { id = id; offset = 0; size = 1 })
 
-abbrev copy : VarId → Operand → Stmt
+abbrev pub copy : VarId → Operand → Stmt
 copy id a = stmtOf (Op.One Copy) (Out.Var (record { id = id; offset = 0; size = 1 })) a None
 
-abbrev marker : Stmt
+abbrev pub marker : Stmt
 marker = stmtOf Op.InstructionMarker Out.None None None
 
-abbrev label : ℕ → Stmt
+abbrev pub label : ℕ → Stmt
 label n = stmtOf (Op.PcodeLabel (record { 0 = n })) Out.None None None
 
-abbrev branch : ℕ → Stmt
+abbrev pub branch : ℕ → Stmt
 branch n = stmtOf (Op.PcodeBranch (record { 0 = n })) Out.None (byte v1) None
 
-abbrev store : Operand → Stmt
+abbrev pub store : Operand → Stmt
 store a = stmtOf (Op.Store 0) Out.None (Const 0 8) a
 
 -- 112 rows with n in each byte
@@ -69,6 +71,15 @@ over-a-marker = refl
 backward : inOneInstruction (label 1 ∷ branch 1 ∷ []) ≡ false
 unfolding inOneInstruction reaches
 backward = refl
+
+-- a constant that u64 holds, and the least that it does not
+short : AllShort (copy v1 (Const 255 1) ∷ store (Const (2 ^ 64 - 1) 8) ∷ [])
+unfolding AllShort
+short = ((lit< tt, tt), ((lit< tt, lit< tt), tt))
+
+too-long : AllShort (copy v1 (Const (2 ^ 64) 9) ∷ []) → ⊥
+unfolding AllShort
+too-long h = omega (arith, h .0 .0)
 
 -- a temporary that its own instruction wrote, and one that nothing wrote
 fresh : freshRun noMarks [] (copy t (Const 5 1) ∷ copy v1 (byte t) ∷ []) (rows 7) ≡ true

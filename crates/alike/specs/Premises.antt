@@ -1,5 +1,6 @@
--- What is asked of a block and its start: branches inside one instruction, and no read of a temporary byte that an earlier one last wrote.
-use Prim.Native.Nat.{ℕ}
+-- What is asked of a block and its start: branches inside one instruction, no read of a temporary byte that an earlier one last wrote, and
+-- constants that fit the code's type.
+use Prim.Native.Nat.{ℕ, _^_, _<_}
 use mathlib.Core.Bool.{Bool, true, false, not, _&&_, _||_}
 use mathlib.Core.List.{List, [], _∷_}
 use Rattle.pcode.specs.Block.{lasting}
@@ -88,3 +89,14 @@ readsFresh marks ids answers (s ∷ ss) (Jump l) m w = readsFresh marks ids answ
 -- the same of a block's run
 unfoldable pub freshRun : Marks → List ℕ → List Stmt → List (List ℕ) → Bool
 freshRun marks answers ss rows = readsFresh marks (varsOf ss) answers ss Next (startOf rows) noneYet
+
+-- a constant is below 2^64
+abbrev pub Short : Operand → Type 0
+Short None = Unit {0}
+Short (Const k n) = k < 2 ^ 64
+Short (Var v) = Unit {0}
+
+-- every constant is below 2^64: the type of a constant in the code is u64, the definitions hold numbers without bound
+unfoldable pub AllShort : List Stmt → Type 0
+AllShort [] = Unit {0}
+AllShort (s ∷ ss) = (Short (s .first) × Short (s .second)) × AllShort ss

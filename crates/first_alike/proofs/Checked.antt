@@ -25,16 +25,11 @@ use Rattle.checks.specs.Checks.{variables, checkOf}
 use Rattle.checks.proofs.Passing.{Good}
 use Rattle.machine.specs.Class.{ownClass, inClass, backward, outside, firstOutside}
 use Rattle.const_prop.specs.Pass.{propagatedOf}
+use Rattle.alike.specs.Premises.{AllShort}
 use Rattle.alike.proofs.Tables.{AllKnown, all-known}
 use Rattle.alike.proofs.Checked.{fit-of}
 use Rattle.alike.proofs.Both.{FirstAlike}
-use Rattle.first_alike.proofs.Operands.{Short}
 use Rattle.first_alike.proofs.Walks.{Runs, AllRun, first-alike}
-
--- constants are below 2^64, as the text form reads them
-unfoldable pub AllShort : List Stmt → Type 0
-AllShort [] = Unit {0}
-AllShort (s ∷ ss) = (Short (s .first) × Short (s .second)) × AllShort ss
 
 -- an answer that is no refusal
 refused : {R : Type 0} (why : Refusal) → _≡_ {A = Answer} (Refused why) Ok → R

@@ -40,6 +40,7 @@ use Rattle.uses.specs.Operands.{placeOf, nodeAt, operandBits, usedBy, becomesBy
 use Rattle.sound.specs.Sound.{Valuation, num, low}
 use Rattle.sound.proofs.Numbers.{length-low, num-low, low-mod}
 use Rattle.sound.proofs.Shifts.{ConstIs, const-num}
+use Rattle.alike.specs.Premises.{Short}
 use Rattle.alike.proofs.Fits.{InRow}
 use Rattle.alike.proofs.Havoc.{State, numBy, valueBy}
 use Rattle.alike.proofs.Parts.{Bytewise}
@@ -78,12 +79,6 @@ abbrev pub Canon : Operand → Type 0
 Canon None = Unit {0}
 Canon (Const k n) = k < 2 ^ (8 * n)
 Canon (Var v) = Unit {0}
-
--- a constant is below 2^64
-abbrev pub Short : Operand → Type 0
-Short None = Unit {0}
-Short (Const k n) = k < 2 ^ 64
-Short (Var v) = Unit {0}
 
 -- a constant's digits are known
 digits-known : (n v : ℕ) → (k : ℕ) × (constFrom (bits (codes (digits n v))) ≡ Fixed k)

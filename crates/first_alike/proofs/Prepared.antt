@@ -32,6 +32,7 @@ use Rattle.uses.specs.Operands.{placeOf, operandBits, usedBy}
 use Rattle.settle.specs.Settle.{named, written, settledBy}
 use Rattle.simplify.specs.Simplify.{usedBoth, replacedOf, settledChange, writeOf, Change}
 use Rattle.sound.specs.Sound.{Valuation, Agrees, low}
+use Rattle.alike.specs.Premises.{Short}
 use Rattle.alike.proofs.Fits.{InRow}
 use Rattle.alike.proofs.Havoc.{State, valueBy, putBy}
 use Rattle.alike.proofs.Parts.{Bytewise}
@@ -39,7 +40,7 @@ use Rattle.alike.proofs.Tables.{KnownStmt}
 use Rattle.first_alike.proofs.Sure.{Holds}
 use Rattle.first_alike.proofs.Valid.{InUse, Below, Valid}
 use Rattle.first_alike.proofs.Uses.{Stage, stage-less, first-stage, first-valid, first-more, first-own, own-fit}
-use Rattle.first_alike.proofs.Operands.{Short, Stead, UsedIn, operand-holds, becomes-stead, used-stage, used-valid, used-more, used-own, used-on}
+use Rattle.first_alike.proofs.Operands.{Stead, UsedIn, operand-holds, becomes-stead, used-stage, used-valid, used-more, used-own, used-on}
 use Rattle.first_alike.proofs.Settled.{Worth, Fair, valued-valid, valued-worth}
 
 -- what the laws ask of a statement's operands and output

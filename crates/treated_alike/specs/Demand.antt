@@ -14,9 +14,8 @@ use Rattle.machine.specs.Class.{ownClass, firstOutside}
 use Rattle.run.specs.Run.{runOf, Shape}
 use Rattle.alike.specs.ById.{Start, StartsAs}
 use Rattle.alike.specs.Alike.{Alike}
-use Rattle.alike.specs.Premises.{inOneInstruction, freshRun}
+use Rattle.alike.specs.Premises.{inOneInstruction, freshRun, AllShort}
 use Rattle.optimizer.specs.Both.{bothOf}
-use Rattle.first_alike.proofs.Checked.{AllShort}
 
 -- a block of the run class that both passes accept, its branches forward and inside one instruction
 pub record Accepted (m : Marks) (b : Block) : Type 0 where
