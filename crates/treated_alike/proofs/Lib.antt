@@ -1,1 +1,5 @@
 pub mod Treated
+pub mod Files
+pub mod Holding
+pub mod Observed
+pub mod Worked

@@ -1,15 +1,18 @@
--- Demand 3: what is asked of a block and its run, and what its treated block does.
-use Prim.Native.Nat.{ℕ}
+-- Demand 3: what is asked of a block or a file and its run, and what its treated block does.
+use Prim.Native.Nat.{ℕ, zero, suc, _<_}
 use mathlib.Core.Path.{_≡_}
 use mathlib.Core.Bool.{true, false}
-use mathlib.Core.List.{List}
+use mathlib.Core.List.{List, [], _∷_, _++_, map}
 use lib.Dec.{ltb}
-use lib.ListN.{length}
+use lib.ListN.{length, take, replicate}
 use Rattle.pcode.specs.Block.{held}
+use Rattle.pcode.specs.declared.var.VarId.{VarId}
 use Rattle.pcode.specs.declared.block.Block.{Block}
 use Rattle.pcode.specs.declared.block.Marks.{Marks}
 use Rattle.vars.specs.Vars.{varsOf}
+use Rattle.text.specs.Reading.{readOf}
 use Rattle.text.specs.declared.answer.Answer.the-variants.{Ok}
+use Rattle.text.specs.declared.answer.Read.{Read}
 use Rattle.machine.specs.Class.{ownClass, firstOutside}
 use Rattle.run.specs.Run.{runOf, Shape}
 use Rattle.alike.specs.ById.{Start, StartsAs}
@@ -23,6 +26,24 @@ pub record Accepted (m : Marks) (b : Block) : Type 0 where
   pub class : ltb (firstOutside ownClass (held b) 0 (held b)) (length (held b)) ≡ false
   pub inside : inOneInstruction (held b) ≡ true
   pub constants : AllShort (held b)
+
+-- the block that is read from a file for both passes, and its marks
+abbrev pub blockIn : List ℕ → Block
+blockIn bytes = readOf 64 bytes .block
+
+abbrev pub marksIn : List ℕ → Marks
+marksIn bytes = readOf 64 bytes .marks
+
+-- the block that both passes leave of a file
+abbrev pub treatedIn : List ℕ → Block
+treatedIn bytes = bothOf (blockIn bytes) (marksIn bytes) .block
+
+-- a file that is read, and whose block both passes accept; nothing is asked of its constants
+pub record AcceptedFile (bytes : List ℕ) : Type 0 where
+  pub read : readOf 64 bytes .answer ≡ Ok
+  pub accepted : bothOf (blockIn bytes) (marksIn bytes) .answer ≡ Ok
+  pub class : ltb (firstOutside ownClass (held (blockIn bytes)) 0 (held (blockIn bytes))) (length (held (blockIn bytes))) ≡ false
+  pub inside : inOneInstruction (held (blockIn bytes)) ≡ true
 
 -- rows that hold a start
 pub record Holds (b : Block) (start : Start) (rows : List (List ℕ)) : Type 0 where
@@ -38,3 +59,16 @@ RunsAlike m answers start b rows rows′ =
 -- a start and load answers from which the block reads no temporary byte last written by an earlier instruction
 abbrev pub Fresh : Marks → List ℕ → Block → List (List ℕ) → Type 0
 Fresh m answers b rows = freshRun m answers (held b) rows ≡ true
+
+-- the bytes f k, f (k + 1), ..
+unfoldable pub bytesFrom : (ℕ → ℕ) → ℕ → ℕ → List ℕ
+bytesFrom f k zero = []
+bytesFrom f k (suc n) = f k ∷ bytesFrom f (suc k) n
+
+-- a start's rows for a table of variables: theirs in order, the others of zeros
+unfoldable pub rowsOf : List VarId → Start → List (List ℕ)
+rowsOf ids start = take 112 (map (λ id. bytesFrom (start id) 0 16) ids ++ replicate 112 (replicate 16 0))
+
+-- a start is of bytes
+abbrev pub OfBytes : Start → Type 0
+OfBytes start = (id : VarId) (k : ℕ) → start id k < 256

@@ -1,1 +1,4 @@
 pub mod Demand
+pub mod Seen
+pub mod Examples
+pub mod Worked
