@@ -1,15 +1,15 @@
 -- The treated block of a file runs alike, and its text is what the front door writes: the reader sees to the constants.
 use Prim.Native.Nat.{ℕ}
-use mathlib.Core.Path.{_≡_, refl}
+use mathlib.Core.Path.{_≡_}
 use mathlib.Core.List.{List, [], _∷_}
 use Rattle.pcode.specs.Block.{held}
 use Rattle.pcode.specs.declared.var.Operand.{Operand}
 use Rattle.pcode.specs.declared.var.Operand.the-variants.{None, Const, Var}
 use Rattle.pcode.specs.declared.block.Stmt.{Stmt}
-use Rattle.roundtrip.specs.Fits.{FitsOperand, Fits, FitsAll}
+use Rattle.roundtrip.specs.Fits.{FitsOperand, FitsAll}
 use Rattle.roundtrip.proofs.ReadPrint.{read-fits}
 use Rattle.print.specs.Printing.{printed}
-use Rattle.front.specs.Front.{answerOf}
+use Rattle.front.specs.Front.{endOf, answerOf}
 use Rattle.front.specs.declared.Pass.the-variants.{Both}
 use Rattle.alike.specs.ById.{Start}
 use Rattle.alike.specs.Premises.{Short, AllShort}
@@ -41,5 +41,5 @@ treated-file-runs-alike bytes answers a =
 
 -- that block's text is what the front door's promise names
 pub treated-file-text : (bytes : List ℕ) → AcceptedFile bytes → answerOf Both bytes .text ≡ printed (held (treatedIn bytes))
-unfolding answerOf
+unfolding endOf
 treated-file-text bytes a = rw (a .read, a .accepted)

@@ -2,13 +2,12 @@
 use Prim.Native.Nat.{ℕ, zero, suc, _+_, _<_, _≤_}
 use native.Mathlib.Omega.{arith}
 use mathlib.Core.Path.{_≡_, refl, sym, ap, _∙_, subst}
-use mathlib.Core.Bool.{true}
 use mathlib.Core.List.{List, [], _∷_, _++_, map}
 use lib.Dec.{ltb, lit<}
-use lib.ListN.{length, take, getD, replicate, length-append, length-take, length-replicate, length-map, getD-replicate, List·getD-eq-default, List·getD-append}
+use lib.ListN.{length, getD, replicate, length-append, length-take, length-replicate, getD-replicate, List·getD-eq-default}
 use lib.Seq.{getD-take}
 use borrow.Author.Tests.{ltb-true, ltb-false}
-use Rattle.pcode.specs.Block.{hasId, held}
+use Rattle.pcode.specs.Block.{held}
 use Rattle.pcode.specs.declared.var.VarId.{VarId}
 use Rattle.pcode.specs.declared.block.Block.{Block}
 use Rattle.vars.specs.Vars.{rowOf, varsOf}

@@ -6,9 +6,9 @@ use mathlib.Core.List.{List, [], _∷_}
 use Rattle.pcode.specs.Block.{lasting}
 use Rattle.pcode.specs.declared.var.VarId.{VarId}
 use Rattle.pcode.specs.declared.block.Marks.{Marks}
-use Rattle.step.specs.Events.{Event, Loaded, Stored, Taken, Marked, Ended}
+use Rattle.step.specs.Events.{Event, Loaded, Stored, Taken}
 use Rattle.alike.specs.ById.{Start}
-use Rattle.alike.specs.Alike.{SameEvent, loads, stores, exits, marks-at, ends, Alike, none, more}
+use Rattle.alike.specs.Alike.{loads, stores, exits, marks-at, ends, Alike, none, more}
 use Rattle.treated_alike.specs.Seen.{callsOf, bytesIn}
 
 module _ {m : Marks} {start : Start} {ids ids′ : List VarId} where

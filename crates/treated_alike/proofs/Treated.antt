@@ -1,24 +1,20 @@
 -- Treated blocks run alike. Assumes nothing.
-use Prim.Native.Nat.{ℕ, _+_, _≤_}
+use Prim.Native.Nat.{ℕ, _+_}
 use native.Mathlib.Omega.{arith}
 use mathlib.Core.Path.{_≡_, refl, sym, _∙_, ap, subst}
-use mathlib.Core.Bool.{Bool, true, false}
+use mathlib.Core.Bool.{true, false}
 use mathlib.Core.List.{List, [], _∷_, _++_}
 use lib.Dec.{ltb}
-use lib.ListN.{length, take, drop}
+use lib.ListN.{length}
 use borrow.Author.Tests.{ltb-false, le-ltb}
-use Rattle.pcode.specs.Var.{pick}
-use Rattle.pcode.specs.Block.{held, blankStmts, firstLimits, secondLimits}
+use Rattle.pcode.specs.Block.{held, firstLimits, secondLimits}
 use Rattle.pcode.specs.declared.block.Stmt.{Stmt}
 use Rattle.pcode.specs.declared.block.Block.{Block}
 use Rattle.pcode.specs.declared.block.Marks.{Marks}
-use Rattle.pcode.specs.declared.refusal.Refusal.{Refusal}
-use Rattle.vars.specs.Vars.{varsOf, tooMany}
+use Rattle.vars.specs.Vars.{varsOf}
 use Rattle.text.specs.declared.answer.Answer.{Answer}
 use Rattle.text.specs.declared.answer.Answer.the-variants.{Ok, Refused}
-use Rattle.checks.specs.Statements.{elseThen, checksFrom}
-use Rattle.checks.specs.Labels.{labelsFrom}
-use Rattle.checks.specs.Checks.{variables, checkOf}
+use Rattle.checks.specs.Checks.{checkOf}
 use Rattle.checks.proofs.Passing.{never, first-ok}
 use Rattle.machine.specs.Class.{ownClass, firstOutside}
 use Rattle.dead_store.specs.Stays.{blockOf, eliminated}
@@ -34,7 +30,7 @@ use Rattle.alike.specs.Premises.{inOneInstruction}
 use Rattle.alike.proofs.Both.{FirstAlike, both-checked}
 use Rattle.alike.proofs.Kept.{vars-ok, held-block}
 use Rattle.first_checked.specs.Results.{Given}
-use Rattle.first_checked.proofs.First.{First, first, first-table}
+use Rattle.first_checked.proofs.First.{first, first-table}
 use Rattle.first_checked.proofs.Checked.{result-checked}
 use Rattle.first_checked.proofs.Runs.{result-runs}
 use Rattle.first_checked.proofs.Inside.{result-one-instruction}

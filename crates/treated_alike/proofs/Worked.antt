@@ -1,33 +1,30 @@
 -- The worked file of specs/Worked goes through the theorem: its treated block runs alike, and what that run does is known without running it.
-use Prim.Native.Nat.{ℕ, _<_, _≤_}
+use Prim.Native.Nat.{ℕ, _<_}
 use native.Mathlib.Omega.{arith}
 use mathlib.Core.Path.{_≡_, refl, sym, ap, _∙_, subst}
 use mathlib.Core.Bool.{Bool, true, false}
 use mathlib.Core.List.{List, [], _∷_}
-use lib.Dec.{ltb, lit<}
-use lib.ListN.{length}
+use lib.Dec.{lit<}
 use Rattle.pcode.specs.Var.{pick, sameId}
 use Rattle.pcode.specs.Block.{held, hasId, lasting, noMarks}
-use Rattle.pcode.specs.declared.block.Stmt.{Stmt}
 use Rattle.pcode.specs.declared.block.Block.{Block}
 use Rattle.vars.specs.Vars.{varsOf}
-use Rattle.text.specs.Reading.{readOf}
 use Rattle.text.specs.declared.answer.Answer.the-variants.{Ok}
 use Rattle.text.specs.declared.answer.Read.{Read}
 use Rattle.print.specs.Printing.{printed}
 use Rattle.dead_store.specs.Stays.{blockOf}
-use Rattle.machine.specs.Class.{ownClass, firstOutside}
 use Rattle.run.specs.Run.{runOf}
 use Rattle.alike.specs.Alike.{Alike}
+use Rattle.alike.specs.Examples.{v1, v2}
 use Rattle.alike.specs.Premises.{inOneInstruction, freshRun}
 use Rattle.optimizer.specs.Both.{bothOf}
 use Rattle.optimizer.specs.declared.second.Treated.{Treated}
 use Rattle.front.specs.Front.{answerOf}
 use Rattle.front.specs.declared.Pass.the-variants.{Both}
-use Rattle.treated_alike.specs.Demand.{treatedIn, AcceptedFile, Holds, OfBytes}
+use Rattle.treated_alike.specs.Demand.{outsideClass, treatedIn, AcceptedFile, Holds, OfBytes}
 use Rattle.treated_alike.specs.Seen.{callsOf, bytesIn}
 use Rattle.treated_alike.specs.Worked as W
-use Rattle.treated_alike.specs.Worked.{file, result, given, treated, start, five, rows, rows′, v1, v2}
+use Rattle.treated_alike.specs.Worked.{file, result, given, treated, start, five, rows, rows′}
 use Rattle.treated_alike.proofs.Files.{treated-file-runs-alike, treated-file-text}
 use Rattle.treated_alike.proofs.Holding.{rows-hold}
 use Rattle.treated_alike.proofs.Observed.{same-calls, same-bytes}
@@ -38,7 +35,7 @@ accepts =
     record {
       read = ap (λ (r : Read). r .answer) W.reads;
       accepted = subst (λ (r : Read). bothOf (r .block) (r .marks) .answer ≡ Ok) (sym W.reads) (ap (λ (t : Treated). t .answer) W.treats);
-      class = subst (λ (r : Read). ltb (firstOutside ownClass (held (r .block)) 0 (held (r .block))) (length (held (r .block))) ≡ false) (sym W.reads) W.in-class;
+      class = subst (λ (r : Read). outsideClass (held (r .block)) ≡ false) (sym W.reads) W.in-class;
       inside = subst (λ (r : Read). inOneInstruction (held (r .block)) ≡ true) (sym W.reads) W.one-instruction;
     }
 

@@ -1,18 +1,18 @@
 -- Demand 3: what is asked of a block or a file and its run, and what its treated block does.
 use Prim.Native.Nat.{ℕ, zero, suc, _<_}
 use mathlib.Core.Path.{_≡_}
-use mathlib.Core.Bool.{true, false}
+use mathlib.Core.Bool.{Bool, true, false}
 use mathlib.Core.List.{List, [], _∷_, _++_, map}
 use lib.Dec.{ltb}
 use lib.ListN.{length, take, replicate}
 use Rattle.pcode.specs.Block.{held}
 use Rattle.pcode.specs.declared.var.VarId.{VarId}
+use Rattle.pcode.specs.declared.block.Stmt.{Stmt}
 use Rattle.pcode.specs.declared.block.Block.{Block}
 use Rattle.pcode.specs.declared.block.Marks.{Marks}
 use Rattle.vars.specs.Vars.{varsOf}
 use Rattle.text.specs.Reading.{readOf}
 use Rattle.text.specs.declared.answer.Answer.the-variants.{Ok}
-use Rattle.text.specs.declared.answer.Read.{Read}
 use Rattle.machine.specs.Class.{ownClass, firstOutside}
 use Rattle.run.specs.Run.{runOf, Shape}
 use Rattle.alike.specs.ById.{Start, StartsAs}
@@ -20,10 +20,14 @@ use Rattle.alike.specs.Alike.{Alike}
 use Rattle.alike.specs.Premises.{inOneInstruction, freshRun, AllShort}
 use Rattle.optimizer.specs.Both.{bothOf}
 
+-- refusal 16 meets a block: an operation is outside the run class, or a `PcodeBranch` goes to a label above it
+abbrev pub outsideClass : List Stmt → Bool
+outsideClass ss = ltb (firstOutside ownClass ss 0 ss) (length ss)
+
 -- a block of the run class that both passes accept, its branches forward and inside one instruction
 pub record Accepted (m : Marks) (b : Block) : Type 0 where
   pub accepted : bothOf b m .answer ≡ Ok
-  pub class : ltb (firstOutside ownClass (held b) 0 (held b)) (length (held b)) ≡ false
+  pub class : outsideClass (held b) ≡ false
   pub inside : inOneInstruction (held b) ≡ true
   pub constants : AllShort (held b)
 
@@ -38,11 +42,11 @@ marksIn bytes = readOf 64 bytes .marks
 abbrev pub treatedIn : List ℕ → Block
 treatedIn bytes = bothOf (blockIn bytes) (marksIn bytes) .block
 
--- a file that is read, and whose block both passes accept; nothing is asked of its constants
+-- a file that is read, and whose block is such a block; nothing is asked of its constants
 pub record AcceptedFile (bytes : List ℕ) : Type 0 where
   pub read : readOf 64 bytes .answer ≡ Ok
   pub accepted : bothOf (blockIn bytes) (marksIn bytes) .answer ≡ Ok
-  pub class : ltb (firstOutside ownClass (held (blockIn bytes)) 0 (held (blockIn bytes))) (length (held (blockIn bytes))) ≡ false
+  pub class : outsideClass (held (blockIn bytes)) ≡ false
   pub inside : inOneInstruction (held (blockIn bytes)) ≡ true
 
 -- rows that hold a start

@@ -4,12 +4,11 @@ use Prim.Native.Nat.{ℕ}
 use mathlib.Core.Path.{_≡_, refl}
 use mathlib.Core.Bool.{true, false}
 use mathlib.Core.List.{List, [], _∷_, _++_}
-use lib.Dec.{ltb}
-use lib.IntN.{pos, negsuc}
+use lib.IntN.{negsuc}
 use lib.ListN.{length}
 use Rattle.pcode.specs.Var.{pick, eqZ, sameId}
 use Rattle.pcode.specs.Names.{bytesOf, nameOf, opOf}
-use Rattle.pcode.specs.Block.{held, stmtOf, hasId, noMarks, blankStmts}
+use Rattle.pcode.specs.Block.{stmtOf, hasId, noMarks, blankStmts}
 use Rattle.pcode.specs.declared.var.VarId.{VarId}
 use Rattle.pcode.specs.declared.var.Operand.{Operand}
 use Rattle.pcode.specs.declared.var.Operand.the-variants.{None, Const, Var}
@@ -19,7 +18,6 @@ use Rattle.pcode.specs.declared.op.OneOp.the-variants.{Copy, ZeroExtend}
 use Rattle.pcode.specs.declared.op.TwoOp.the-variants.{IntAdd, IntXor}
 use Rattle.pcode.specs.declared.op.Op.the-variants as Op
 use Rattle.pcode.specs.declared.block.Stmt.{Stmt}
-use Rattle.pcode.specs.declared.block.Block.{Block}
 use Rattle.vars.specs.Vars.{joinId, joinIds, varsFrom, varsOf, rowOf, overFrom, noIds}
 use Rattle.fields.specs.Decimals.{stepOf as digitStep, digitsOf, decimalOf}
 use Rattle.fields.specs.Parts.{placeOf, restOf, countOf}
@@ -28,7 +26,6 @@ use Rattle.record.specs.Operands.{idOf, varOf, constOf, operandOf}
 use Rattle.record.specs.Records.{numberIn, markOf, statementOf, recordOf}
 use Rattle.text.specs.Reading.{linesOf, emptyRead, readWith, acceptedStmt, readLines, readOf}
 use Rattle.text.specs.declared.answer.Answer.the-variants.{Ok}
-use Rattle.text.specs.declared.answer.Read.{Read}
 use Rattle.checks.specs.Statements.{goodSize, goodNode, goodParts, metNeeds, goodSizes, stmtCheck, checksFrom}
 use Rattle.checks.specs.Labels.{hasLabel, labelsFrom}
 use Rattle.checks.specs.Checks.{variables, checkOf}
@@ -41,7 +38,7 @@ use Rattle.const_step.specs.Labels.{hasTarget}
 use Rattle.const_prop.specs.Pass.{allIds, leastFrom, stepOf as passStep, walkFrom, noStore, noUse, noMap}
 use Rattle.live_bytes.specs.Bytes.{inside, anyBelow}
 use Rattle.dead_store.specs.Stays.{blockOf, readFirst, overwritten, readNext, rewritten, readLater, judge, deadOf, without}
-use Rattle.machine.specs.Class.{ownClass, firstOutside}
+use Rattle.machine.specs.Class.{firstOutside}
 use Rattle.machine.specs.Values.{resultIn, plainStep}
 use Rattle.meaning.specs.Meaning.{meaning}
 use Rattle.state.specs.Bytes as Rows
@@ -52,8 +49,9 @@ use Rattle.alike.specs.ById.{Start, seenOf}
 use Rattle.alike.specs.Premises.{reaches, inOneInstruction, readsFresh, freshRun}
 use Rattle.print.specs.Texts.{digitsText, magOf, idText, constText, varText}
 use Rattle.print.specs.Printing.{opText, operandsText, recordText, printed}
+use Rattle.alike.specs.Examples.{v1, v2, t}
 use Rattle.optimizer.specs.Both.{bothOf}
-use Rattle.treated_alike.specs.Demand.{bytesFrom, rowsOf}
+use Rattle.treated_alike.specs.Demand.{outsideClass, bytesFrom, rowsOf}
 use Rattle.treated_alike.specs.Seen.{callsOf, bytesIn}
 
 abbrev pub file : List ℕ
@@ -80,18 +78,9 @@ result =
     ++ (bytesOf "Store\t0\t-\tc8192:8\tv1:0:8\n"
     ++ bytesOf "Branch\t3\t-\tv2:0:1\t-\n"))))))
 
--- two lasting variables, a temporary of the file, and the temporary that is added
-abbrev pub v1 : VarId
-v1 = record { 0 = pos 1 }
-
-abbrev pub v2 : VarId
-v2 = record { 0 = pos 2 }
-
-abbrev t1 : VarId
-t1 = record { 0 = negsuc 0 }
-
-abbrev t2 : VarId
-t2 = record { 0 = negsuc 1 }
+-- the temporary that is added
+abbrev added : VarId
+added = record { 0 = negsuc 1 }
 
 -- the lowest n bytes of a variable
 abbrev part : VarId → ℕ → Operand
@@ -109,7 +98,7 @@ given =
     ∷ stmtOf (Op.Two IntAdd) (to v2 1) (part v2 1) (Const 1 1)
     ∷ stmtOf (Op.PcodeLabel (record { 0 = 1 })) Out.None None None
     ∷ stmtOf Op.InstructionMarker Out.None None None
-    ∷ stmtOf (Op.Two IntXor) (to t1 1) (part v2 1) (Const 255 1)
+    ∷ stmtOf (Op.Two IntXor) (to t 1) (part v2 1) (Const 255 1)
     ∷ stmtOf (Op.Store 0) Out.None (Const 8192 8) (part v1 8)
     ∷ stmtOf (Op.Branch 3) Out.None (part v2 1) None
     ∷ []
@@ -118,8 +107,8 @@ given =
 -- does the IntXor, whose temporary nothing reads
 abbrev pub treated : List Stmt
 treated =
-    stmtOf (Op.Load 0) (to t2 1) (Const 4096 8) None
-    ∷ stmtOf (Op.One ZeroExtend) (to v1 8) (part t2 1) None
+    stmtOf (Op.Load 0) (to added 1) (Const 4096 8) None
+    ∷ stmtOf (Op.One ZeroExtend) (to v1 8) (part added 1) None
     ∷ stmtOf (Op.PcodeBranch (record { 0 = 1 })) Out.None (part v1 1) None
     ∷ stmtOf (Op.Two IntAdd) (to v2 1) (part v2 1) (Const 1 1)
     ∷ stmtOf (Op.PcodeLabel (record { 0 = 1 })) Out.None None None
@@ -144,7 +133,7 @@ unfolding printed recordText opText operandsText varText constText idText magOf 
 prints = refl
 
 -- every operation is of the run class, and no branch goes up
-pub in-class : ltb (firstOutside ownClass given 0 given) (length given) ≡ false
+pub in-class : outsideClass given ≡ false
 unfolding firstOutside hasLabel
 in-class = refl
 
