@@ -64,7 +64,7 @@ file =
     ++ (bytesOf "InstructionMarker\t-\t-\t-\t-\n"
     ++ (bytesOf "IntXor\t-\tv-1:0:1\tv2:0:1\tc255:1\n"
     ++ (bytesOf "Store\t0\t-\tc8192:8\tv1:0:8\n"
-    ++ bytesOf "Branch\t3\t-\tv2:0:1\t-\n")))))))
+    ++ bytesOf "Branch\t1\t-\tv2:0:1\t-\n")))))))
 
 -- what the front door writes for it
 abbrev pub result : List ℕ
@@ -76,7 +76,7 @@ result =
     ++ (bytesOf "PcodeLabel\t1\t-\t-\t-\n"
     ++ (bytesOf "InstructionMarker\t-\t-\t-\t-\n"
     ++ (bytesOf "Store\t0\t-\tc8192:8\tv1:0:8\n"
-    ++ bytesOf "Branch\t3\t-\tv2:0:1\t-\n"))))))
+    ++ bytesOf "Branch\t1\t-\tv2:0:1\t-\n"))))))
 
 -- the temporary that is added
 abbrev added : VarId
@@ -100,7 +100,7 @@ given =
     ∷ stmtOf Op.InstructionMarker Out.None None None
     ∷ stmtOf (Op.Two IntXor) (to t 1) (part v2 1) (Const 255 1)
     ∷ stmtOf (Op.Store 0) Out.None (Const 8192 8) (part v1 8)
-    ∷ stmtOf (Op.Branch 3) Out.None (part v2 1) None
+    ∷ stmtOf (Op.Branch 1) Out.None (part v2 1) None
     ∷ []
 
 -- its treated block: the load goes to an added temporary and is extended to 8 bytes, so that the copy before it is a dead store and goes; so
@@ -114,7 +114,7 @@ treated =
     ∷ stmtOf (Op.PcodeLabel (record { 0 = 1 })) Out.None None None
     ∷ stmtOf Op.InstructionMarker Out.None None None
     ∷ stmtOf (Op.Store 0) Out.None (Const 8192 8) (part v1 8)
-    ∷ stmtOf (Op.Branch 3) Out.None (part v2 1) None
+    ∷ stmtOf (Op.Branch 1) Out.None (part v2 1) None
     ∷ []
 
 -- the file is read
@@ -164,10 +164,10 @@ fresh = (refl, refl)
 
 -- what the file's block loads and stores, and the exit it takes
 abbrev pub callsFive : List Event
-callsFive = Loaded 0 4096 0 ∷ Stored 0 8192 5 ∷ Taken 3 9 0 [] ∷ []
+callsFive = Loaded 0 4096 0 ∷ Stored 0 8192 5 ∷ Taken 1 9 0 [] ∷ []
 
 abbrev pub callsNone : List Event
-callsNone = Loaded 0 4096 0 ∷ Stored 0 8192 0 ∷ Taken 3 10 0 [] ∷ []
+callsNone = Loaded 0 4096 0 ∷ Stored 0 8192 0 ∷ Taken 1 10 0 [] ∷ []
 
 pub calls : (callsOf (runOf five given rows) ≡ callsFive) × (callsOf (runOf [] given rows) ≡ callsNone)
 unfolding callsOf rowsOf bytesFrom runOf runFrom stepOf plainStep resultIn meaning answerAt loadedRows Rows.readOf Rows.writeOf Rows.numOf Rows.bytesOf varsOf varsFrom joinIds joinId hasId rowOf eqZ

@@ -1,1 +1,1 @@
-// Treated blocks run alike: demand 3, about the public function of both passes. Laws alone, no code.
+// Treated blocks run alike: demand 3, about the public function of both passes and about files. Laws alone, no code.
