@@ -6,7 +6,7 @@ use Rattle.pcode.specs.Block.{held}
 use Rattle.pcode.specs.declared.block.Block.{Block}
 use Rattle.pcode.specs.declared.block.Marks.{Marks}
 use Rattle.pcode.specs.declared.refusal.Refusal.{Refusal}
-use Rattle.text.specs.Reading.{readOf}
+use Rattle.text.specs.Reading.{readRoom, readOf}
 use Rattle.text.specs.declared.answer.Answer.{Answer}
 use Rattle.text.specs.declared.answer.Answer.the-variants.{Ok, Refused}
 use Rattle.text.specs.declared.answer.Read.{Read}
@@ -24,6 +24,10 @@ abbrev pub limitOf : Pass → ℕ
 limitOf First = 64
 limitOf Second = 129
 limitOf Both = 64
+
+-- how many bytes of a file decide its answer
+abbrev pub inputRoom : Pass → ℕ
+inputRoom p = readRoom (limitOf p)
 
 -- the passes that are asked for
 abbrev pub treatOf : Pass → Block → Marks → Treated

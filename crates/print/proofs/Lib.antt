@@ -1,3 +1,4 @@
 pub mod Writes
 pub mod Signs
 pub mod Records
+pub mod Unique

@@ -44,6 +44,10 @@ operandsRoom = 3 * (operandRoom + 1)
 abbrev pub recordRoom : ℕ
 recordRoom = opRoom + operandsRoom
 
+-- the largest result: 129 records
+abbrev pub blockRoom : ℕ
+blockRoom = recordRoom * 129
+
 -- `refused`, tab, number, tab, place, LF
 abbrev pub refusalRoom : ℕ
 refusalRoom = 7 + 1 + 2 + 1 + valueRoom + 1

@@ -21,10 +21,10 @@ use Rattle.text.specs.declared.answer.Answer.{Answer}
 use Rattle.text.specs.declared.answer.Answer.the-variants.{Ok, Refused}
 use Rattle.text.specs.declared.answer.Read.{Read}
 
-pub record Counted (line : ℕ) (r : Read) : Type 0 where
+pub record Counted (limit line : ℕ) (r : Read) : Type 0 where
   pub lines : line ≡ 1 + (r .marks .count + r .block .count)
   pub marks : r .marks .count ≤ 16
-  pub stmts : r .block .count ≤ 129
+  pub stmts : r .block .count ≤ limit
 
 pub roomed : (limit : ℕ) → roomOf limit ≤ 129
 roomed limit = go (ltb limit 129) refl
@@ -33,40 +33,40 @@ roomed limit = go (ltb limit 129) refl
     go true e = omega (arith, ltb-true limit 129 e)
     go false e = omega arith
 
-pub counted-none : Counted 1 emptyRead
+pub counted-none : (limit : ℕ) → Counted limit 1 emptyRead
 unfolding emptyRead
-counted-none = record { lines = refl; marks = omega arith; stmts = omega arith }
+counted-none limit = record { lines = refl; marks = omega arith; stmts = omega arith }
 
-not-ok : (why : Refusal) → refusedRead why .answer ≡ Ok → ⊥
+pub not-ok : (why : Refusal) → refusedRead why .answer ≡ Ok → ⊥
 unfolding refusedRead
 not-ok why e = let z : _≡_ {A = ℕ} 0 1 = cc in omega arith
 
-module _ (limit line : ℕ) (r : Read) (small : limit ≤ 129) (n : Counted line r) where
-  mark-counted : (id : VarId) → acceptedMark line r id .answer ≡ Ok → Counted (line + 1) (acceptedMark line r id)
+module _ (limit line : ℕ) (r : Read) (small : limit ≤ 129) (n : Counted limit line r) where
+  mark-counted : (id : VarId) → acceptedMark line r id .answer ≡ Ok → Counted limit (line + 1) (acceptedMark line r id)
   unfolding acceptedMark
   mark-counted id = go (ltb 0 (r .block .count)) (leb 16 (r .marks .count)) refl refl
     where
       go : (t u : Bool) → ltb 0 (r .block .count) ≡ t → leb 16 (r .marks .count) ≡ u →
           pick t (refusedRead (BadLine line)) (pick u (refusedRead (BadLine line)) (readWith Ok (r .block) (withMark (r .marks) id))) .answer ≡ Ok →
-          Counted (line + 1) (pick t (refusedRead (BadLine line)) (pick u (refusedRead (BadLine line)) (readWith Ok (r .block) (withMark (r .marks) id))))
+          Counted limit (line + 1) (pick t (refusedRead (BadLine line)) (pick u (refusedRead (BadLine line)) (readWith Ok (r .block) (withMark (r .marks) id))))
       go true u f g e = absurd (not-ok (BadLine line) e)
       go false true f g e = absurd (not-ok (BadLine line) e)
       go false false f g e = record { lines = omega (arith, n .lines); marks = omega (arith, leb-false 16 (r .marks .count) g); stmts = n .stmts }
 
-  stmt-counted : (s : Stmt) → acceptedStmt limit r s .answer ≡ Ok → Counted (line + 1) (acceptedStmt limit r s)
+  stmt-counted : (s : Stmt) → acceptedStmt limit r s .answer ≡ Ok → Counted limit (line + 1) (acceptedStmt limit r s)
   unfolding acceptedStmt
   stmt-counted s = go (leb limit (r .block .count)) refl
     where
       go : (t : Bool) → leb limit (r .block .count) ≡ t →
           pick t (refusedRead (TooManyStatements (r .block .count))) (readWith Ok (pushed (r .block) s) (r .marks)) .answer ≡ Ok →
-          Counted (line + 1) (pick t (refusedRead (TooManyStatements (r .block .count))) (readWith Ok (pushed (r .block) s) (r .marks)))
+          Counted limit (line + 1) (pick t (refusedRead (TooManyStatements (r .block .count))) (readWith Ok (pushed (r .block) s) (r .marks)))
       go true f e = absurd (not-ok (TooManyStatements (r .block .count)) e)
       go false f e =
           let h : r .block .count < limit = leb-false limit (r .block .count) f in
           let q : pushed (r .block) s .count ≡ r .block .count + 1 = rw (lt-ltb (r .block .count) 129 (omega arith)) in
           record { lines = omega (arith, n .lines); marks = n .marks; stmts = omega arith }
 
-  pub counted-more : (d : Record) → accepted limit line r d .answer ≡ Ok → Counted (line + 1) (accepted limit line r d)
+  pub counted-more : (d : Record) → accepted limit line r d .answer ≡ Ok → Counted limit (line + 1) (accepted limit line r d)
   counted-more Bad e = absurd (not-ok (BadLine line) e)
   counted-more (Mark id) e = mark-counted id e
   counted-more (Statement s) e = stmt-counted s e

@@ -1,5 +1,5 @@
 -- Reading a file: a line at a time, up to the first refusal.
-use Prim.Native.Nat.{ℕ, zero, suc, _+_}
+use Prim.Native.Nat.{ℕ, zero, suc, _+_, _*_}
 use mathlib.Core.List.{List, [], _∷_}
 use lib.Dec.{eqb, leb, ltb}
 use lib.ListN.{set}
@@ -83,3 +83,11 @@ roomOf limit = pick (ltb limit 129) limit 129
 -- a file of bytes: its block and marks, or its refusal
 unfoldable pub readOf : ℕ → List ℕ → Read
 readOf limit bytes = readLines (roomOf limit) 1 emptyRead (linesOf bytes)
+
+-- at most 200 bytes and an LF
+abbrev pub lineRoom : ℕ
+lineRoom = 201
+
+-- how many bytes decide what is read: 16 marks, the statements up to the limit, and the one past it
+abbrev pub readRoom : ℕ → ℕ
+readRoom limit = (16 + (roomOf limit + 1)) * lineRoom

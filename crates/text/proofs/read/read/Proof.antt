@@ -25,7 +25,7 @@ use Rattle.text.proofs.answer.Read.new.Reads as new-reads
 use Rattle.text.proofs.read.room.Reads as room-reads
 
 abbrev Inv-loop : tie.InvT-loop
-Inv-loop bytes limit most s₀ line₀ so-far₀ s line so-far = (readLines most 1 emptyRead (linesOf bytes) ≡ readLines most line so-far (linesOf s)) × Counted line so-far × (most ≤ 129)
+Inv-loop bytes limit most s₀ line₀ so-far₀ s line so-far = (readLines most 1 emptyRead (linesOf bytes) ≡ readLines most line so-far (linesOf s)) × Counted most line so-far × (most ≤ 129)
 
 abbrev μ-loop : tie.MeasureT-loop
 μ-loop bytes limit most s₀ line₀ so-far₀ s line so-far = length s
@@ -41,7 +41,7 @@ new-requires c κs = search needs
 -- src/read.rt:29:5
 loop-holds : tie.Need-loop-holds Inv-loop μ-loop
 loop-holds c =
-    (ap (λ (r : Read). readLines (c .before .room .result) 1 r (linesOf (c .before .before .before .args .bytes .now))) (sym (c .new .ensures)), subst (Counted 1) (sym (c .new .ensures)) counted-none, omega (arith, c .before .room .ensures, roomed (c .before .before .before .args .limit)))
+    (ap (λ (r : Read). readLines (c .before .room .result) 1 r (linesOf (c .before .before .before .args .bytes .now))) (sym (c .new .ensures)), subst (Counted (c .before .room .result) 1) (sym (c .new .ensures)) (counted-none (c .before .room .result)), omega (arith, c .before .room .ensures, roomed (c .before .before .before .args .limit)))
 
 -- src/read.rt:30:23
 head-requires : tie.Need-head-requires Inv-loop μ-loop
@@ -93,7 +93,7 @@ part-s-end c =
 -- src/read.rt:39:9
 add-line : tie.Need-add-line Inv-loop μ-loop
 add-line c =
-    record { fits = omega (arith, c .before .before .before .before .before .before .before .before .loop .inv .1 .lines, c .before .before .before .before .before .before .before .before .loop .inv .1 .marks, c .before .before .before .before .before .before .before .before .loop .inv .1 .stmts) }
+    record { fits = omega (arith, c .before .before .before .before .before .before .before .before .loop .inv .1 .lines, c .before .before .before .before .before .before .before .before .loop .inv .1 .marks, c .before .before .before .before .before .before .before .before .loop .inv .1 .stmts, c .before .before .before .before .before .before .before .before .loop .inv .2) }
 
 -- src/read.rt:29:5
 loop-less : tie.Need-loop-less Inv-loop μ-loop
@@ -106,7 +106,7 @@ loop-again c =
     let e : c .before .before .before .before .accept .result ≡ accepted (c .before .before .before .before .before .before .before .before .before .before .room .result) (c .before .before .before .before .before .before .before .before .loop .line) (c .before .before .before .before .before .before .before .before .loop .so-far) (recordOf (headOf newline (c .before .before .before .before .before .before .before .before .loop .s .now))) = (c .before .before .before .before .accept .ensures ∙ ap (accepted (c .before .before .before .before .before .before .before .before .before .before .room .result) (c .before .before .before .before .before .before .before .before .loop .line) (c .before .before .before .before .before .before .before .before .loop .so-far)) (c .before .before .before .before .before .parse .ensures ∙ ap recordOf (c .before .before .before .before .before .before .head .ensures))) in
     let t = upward (c .before .before .before .before .before .before .before .before .loop .s .now) (c .before .start .result) ∙ ap (λ (n : ℕ). drop n (c .before .before .before .before .before .before .before .before .loop .s .now)) (c .before .start .ensures) ∙ from-start newline (c .before .before .before .before .before .before .before .before .loop .s .now) in (
       c .before .before .before .before .before .before .before .before .loop .inv .0 ∙ read-more (c .before .before .before .before .before .before .before .before .before .before .room .result) (c .before .before .before .before .before .before .before .before .loop .line) (c .before .before .before .before .before .before .before .before .loop .so-far) (c .before .before .before .before .before .before .before .before .loop .s .now) (c .before .before .before .before .accept .result) (search needs) e (c .before .before .enum-told .given .1) ∙ ap (λ (l : List ℕ). readLines (c .before .before .before .before .before .before .before .before .before .before .room .result) (c .before .before .before .before .before .before .before .before .loop .line + 1) (c .before .before .before .before .accept .result) (linesOf l)) (sym t),
-      subst (Counted (c .before .before .before .before .before .before .before .before .loop .line + 1)) (sym e) (counted-more (c .before .before .before .before .before .before .before .before .before .before .room .result) (c .before .before .before .before .before .before .before .before .loop .line) (c .before .before .before .before .before .before .before .before .loop .so-far) (c .before .before .before .before .before .before .before .before .loop .inv .2) (c .before .before .before .before .before .before .before .before .loop .inv .1) (recordOf (headOf newline (c .before .before .before .before .before .before .before .before .loop .s .now))) (sym (ap (λ (r : Read). r .answer) e) ∙ c .before .before .enum-told .given .1)),
+      subst (Counted (c .before .before .before .before .before .before .before .before .before .before .room .result) (c .before .before .before .before .before .before .before .before .loop .line + 1)) (sym e) (counted-more (c .before .before .before .before .before .before .before .before .before .before .room .result) (c .before .before .before .before .before .before .before .before .loop .line) (c .before .before .before .before .before .before .before .before .loop .so-far) (c .before .before .before .before .before .before .before .before .loop .inv .2) (c .before .before .before .before .before .before .before .before .loop .inv .1) (recordOf (headOf newline (c .before .before .before .before .before .before .before .before .loop .s .now))) (sym (ap (λ (r : Read). r .answer) e) ∙ c .before .before .enum-told .given .1)),
       c .before .before .before .before .before .before .before .before .loop .inv .2,
     )
 

@@ -1,0 +1,56 @@
+-- How many bytes of a file decide its answer, and how much room the answer takes. Assumes nothing.
+use Prim.Native.Nat.{ℕ, _*_, _≤_}
+use native.Mathlib.Omega.{arith}
+use mathlib.Core.Path.{_≡_, refl, ap}
+use mathlib.Core.List.{List}
+use lib.ListN.{length, take, length-take}
+use Rattle.pcode.specs.Block.{held}
+use Rattle.pcode.specs.declared.block.Block.{Block}
+use Rattle.pcode.specs.declared.block.Marks.{Marks}
+use Rattle.text.specs.Reading.{readOf}
+use Rattle.text.specs.declared.answer.Answer.{Answer}
+use Rattle.text.specs.declared.answer.Answer.the-variants.{Ok, Refused}
+use Rattle.text.specs.declared.answer.Read.{Read}
+use Rattle.text.proofs.Beginning.{beginning}
+use Rattle.print.specs.Rooms.{blockRoom}
+use Rattle.print.specs.Texts.{written}
+use Rattle.print.specs.Printing.{Print}
+use Rattle.print.specs.declared.print.Printed.{Printed}
+use Rattle.print.specs.declared.print.Printed.the-variants.{Written}
+use Rattle.print.proofs.Unique.{print-written}
+use Rattle.optimizer.proofs.Few.{first-few, second-few, both-few}
+use Rattle.front.specs.Front.{limitOf, inputRoom, treatOf, toldBy, answerBy, answerOf}
+use Rattle.front.specs.declared.Pass.{Pass}
+use Rattle.front.specs.declared.Pass.the-variants.{First, Second, Both}
+
+-- the answer for any bytes is the answer for their beginning
+pub beginning-decides : (p : Pass) (bytes : List ℕ) (n : ℕ) → inputRoom p ≤ n → answerOf p (take n bytes) ≡ answerOf p bytes
+unfolding answerOf
+beginning-decides p bytes n h = ap (λ (r : Read). answerBy (r .answer) p (r .block) (r .marks)) (beginning (limitOf p) bytes n h)
+
+-- a treated block has at most 129 statements
+few : (p : Pass) (b : Block) (m : Marks) → treatOf p b m .answer ≡ Ok → treatOf p b m .block .count ≤ 129
+few First b m = first-few b m
+few Second b m = second-few b m
+few Both b m = both-few b m
+
+told-room : (a : Answer) (b : Block) → (a ≡ Ok → b .count ≤ 129) → toldBy a b .room ≤ blockRoom
+told-room Ok b h = omega (arith, h refl, length-take (b .count) (b .stmts))
+told-room (Refused why) b h = omega arith
+
+-- 129 records' room is enough for every answer
+pub page-suffices : (p : Pass) (bytes : List ℕ) → answerOf p bytes .room ≤ blockRoom
+unfolding answerOf
+page-suffices p bytes = go (r .answer)
+  where
+    r : Read
+    r = readOf (limitOf p) bytes
+
+    go : (a : Answer) → answerBy a p (r .block) (r .marks) .room ≤ blockRoom
+    go Ok = told-room (treatOf p (r .block) (r .marks) .answer) (treatOf p (r .block) (r .marks) .block) (few p (r .block) (r .marks))
+    go (Refused why) = omega arith
+
+-- with that room every file's answer is written
+pub answer-written : (p : Pass) (bytes : List ℕ) {old new : List ℕ} {r : Printed} → blockRoom ≤ length old → Print (answerOf p bytes .room) (answerOf p bytes .text) old new r
+    → (r ≡ Written (length (answerOf p bytes .text))) × (new ≡ written old 0 (answerOf p bytes .text))
+answer-written p bytes h q = let s = page-suffices p bytes in print-written (omega arith) q
