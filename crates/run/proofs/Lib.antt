@@ -2,3 +2,4 @@ pub mod Bytes
 pub mod Ready
 pub mod Going
 pub mod Ended
+pub mod Unique
