@@ -1,10 +1,9 @@
 -- How many bytes of a file decide its answer, and how much room the answer takes. Assumes nothing.
-use Prim.Native.Nat.{ℕ, _*_, _≤_}
+use Prim.Native.Nat.{ℕ, _≤_}
 use native.Mathlib.Omega.{arith}
 use mathlib.Core.Path.{_≡_, refl, ap}
 use mathlib.Core.List.{List}
 use lib.ListN.{length, take, length-take}
-use Rattle.pcode.specs.Block.{held}
 use Rattle.pcode.specs.declared.block.Block.{Block}
 use Rattle.pcode.specs.declared.block.Marks.{Marks}
 use Rattle.text.specs.Reading.{readOf}
@@ -27,6 +26,10 @@ use Rattle.front.specs.declared.Pass.the-variants.{First, Second, Both}
 pub beginning-decides : (p : Pass) (bytes : List ℕ) (n : ℕ) → inputRoom p ≤ n → answerOf p (take n bytes) ≡ answerOf p bytes
 unfolding answerOf
 beginning-decides p bytes n h = ap (λ (r : Read). answerBy (r .answer) p (r .block) (r .marks)) (beginning (limitOf p) bytes n h)
+
+-- 81 lines; 146 for the second pass alone
+pub input-rooms : (inputRoom First ≡ 16281) × (inputRoom Second ≡ 29346) × (inputRoom Both ≡ 16281)
+input-rooms = (refl, refl, refl)
 
 -- a treated block has at most 129 statements
 few : (p : Pass) (b : Block) (m : Marks) → treatOf p b m .answer ≡ Ok → treatOf p b m .block .count ≤ 129

@@ -3,8 +3,8 @@ use Prim.Native.Nat.{ℕ, suc, _+_, _*_, _≤_}
 use native.Mathlib.Omega.{arith}
 use mathlib.Core.Path.{_≡_, refl}
 use mathlib.Core.Bool.{Bool, true, false}
-use mathlib.Core.List.{List, [], _∷_, _++_}
-use lib.ListN.{length, take, length-append, length-take}
+use mathlib.Core.List.{List, [], _∷_}
+use lib.ListN.{length, length-append, length-take}
 use Rattle.pcode.specs.Block.{held, firstLimits, secondLimits}
 use Rattle.pcode.specs.declared.block.Stmt.{Stmt}
 use Rattle.pcode.specs.declared.block.Block.{Block}
@@ -17,12 +17,11 @@ use Rattle.widen.specs.declared.widen.Skip.{Skip}
 use Rattle.widen.specs.declared.widen.Skip.the-variants as Skips
 use Rattle.widen.specs.declared.widen.Why.{Why}
 use Rattle.widen.specs.declared.widen.Why.the-variants as Whys
-use Rattle.widen.specs.declared.widen.Made.{Made}
 use Rattle.const_step.specs.Labels.{endOf}
 use Rattle.const_prop.specs.Pass.{Env, Walk, stmtsOf, answerBy, stepOf, afterStep, walkFrom, startWalk, envOf, propagatedOf}
 use Rattle.const_prop.specs.declared.Propagated.{Propagated}
 use Rattle.dead_store.specs.Stays.{without, judge, deadOf, persists}
-use Rattle.optimizer.specs.First.{tableFor, treatedBy, walkedOf, firstBy, firstOf}
+use Rattle.optimizer.specs.First.{tableFor, treatedBy, firstBy, firstOf}
 use Rattle.optimizer.specs.Second.{secondBy, secondOf}
 use Rattle.optimizer.specs.Both.{bothBy, bothOf}
 use Rattle.optimizer.proofs.Standing.{first}

@@ -7,16 +7,15 @@ use mathlib.Core.List.{List, [], _∷_}
 use borrow.Author.Tests.{lt-ltb, ltb-true, ltb-false, leb-true, leb-false}
 use lib.Dec.{eqb, leb, ltb}
 use lib.ListN.{length, take, drop, length-take}
-use lib.Seq.{take-nil, drop-nil, take-take, length-take-le}
+use lib.Seq.{take-nil, take-take, length-take-le}
 use Rattle.pcode.specs.Var.{pick}
-use Rattle.pcode.specs.declared.refusal.Refusal.{Refusal}
 use Rattle.pcode.specs.declared.refusal.Refusal.the-variants.{BadLine}
 use Rattle.fields.specs.Parts.{placeOf, headOf, tailOf}
 use Rattle.fields.proofs.Parts.{placed}
 use Rattle.record.specs.Records.{recordOf}
 use Rattle.record.specs.declared.record.Record.{Record}
 use Rattle.record.specs.declared.record.Record.the-variants.{Bad}
-use Rattle.text.specs.Reading.{newline, linesOf, emptyRead, refusedRead, accepted, readLines, roomOf, lineRoom, readRoom, readOf}
+use Rattle.text.specs.Reading.{newline, linesOf, emptyRead, accepted, readLines, roomOf, lineRoom, readRoom, readOf}
 use Rattle.text.specs.declared.answer.Answer.{Answer}
 use Rattle.text.specs.declared.answer.Answer.the-variants.{Ok, Refused}
 use Rattle.text.specs.declared.answer.Read.{Read}
