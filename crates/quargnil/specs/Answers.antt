@@ -10,7 +10,7 @@ use Rattle.pcode.specs.Refusals.{refusalNumber, refusalPlace}
 use Rattle.pcode.specs.declared.block.Block.{Block}
 use Rattle.text.specs.declared.answer.Answer.{Answer}
 use Rattle.text.specs.declared.answer.Answer.the-variants.{Ok, Refused}
-use Rattle.print.specs.Rooms.{recordRoom}
+use Rattle.print.specs.Rooms.{recordRoom, blockRoom}
 use Rattle.print.specs.Printing.{printed, printOf, afterPrint}
 use Rattle.print.specs.declared.print.Printed.{Printed}
 use Rattle.print.specs.declared.print.Printed.the-variants.{NoRoom, Written}
@@ -24,7 +24,7 @@ codeBy (Written n) = 0
 
 -- how many bytes were written; or the room that is enough for every block, 129 records
 abbrev pub detailBy : Printed → ℕ
-detailBy NoRoom = 129 * recordRoom
+detailBy NoRoom = blockRoom
 detailBy (Written n) = n
 
 -- a block's text in a buffer of n bytes
@@ -51,6 +51,11 @@ pub record Answers (a : Answer) (b : Block) (old new : List ℕ) (detail r : ℕ
   pub code : r ≡ codeOf a b (length old)
   pub detail-is : detail ≡ detailOf a b (length old)
   pub memory : new ≡ afterOf a b old
+
+-- the code where the buffer has room: 0, or 01's number of a refusal
+abbrev pub codeWithRoom : Answer → ℕ
+codeWithRoom Ok = 0
+codeWithRoom (Refused why) = refusalNumber why
 
 -- 1: the first pass; 2: the second; any other number: both
 abbrev pub passOf : ℕ → Pass
