@@ -4,7 +4,7 @@ ghost use mathlib.Core.Bool.{Bool, true, false};
 ghost use Prim.Native.Nat.{ℕ, _+_, _<_, _≤_};
 ghost use lib.ListN.{length, getD, take};
 ghost use Rattle.pcode.specs.Block.{blankStmt};
-ghost use Rattle.vars.specs.Vars.{heldIds};
+ghost use Rattle.vars.specs.Vars.{heldIds, asIds};
 ghost use Rattle.live_tables.specs.Rows.{partOf, isVar, rowIn, rowsOf, noRow, RowsAre, edgeOf, isLabel};
 use pcode::block::Stmt;
 use pcode::op::Op;
@@ -12,6 +12,8 @@ use pcode::var::Operand;
 use pcode::var::VarId;
 use pcode::var::VarNode;
 use vars::Vars;
+use vars::numbers;
+use vars::row_among;
 
 pub struct Rows {
     pub output: usize,
@@ -95,26 +97,29 @@ pub fn is_var(a: Operand) -> bool
     }
 }
 
-fn row_in(vars: Vars, a: Operand) -> usize
-    ensures { λ r. ⌜ r ≡ rowIn (heldIds vars) a ⌝ }
+// The row of an operand's variable among the first `held` numbers.
+fn row_in(raw: &[i16; 112], held: usize, a: Operand) -> usize
+    requires { ⌜ length (now raw) ≡ 112 ⌝ }
+    ensures { λ r. ⌜ r ≡ rowIn (take held (asIds (now (raw .entry)))) a ⌝ }
 {
     match a {
         Operand::None => 0,
         Operand::Const(_, _) => 0,
-        Operand::Var(v) => vars.row(v.id),
+        Operand::Var(v) => row_among(raw, held, v.id),
     }
 }
 
-fn stmt_rows(vars: Vars, s: Stmt) -> Rows
-    ensures { λ r. ⌜ r ≡ rowsOf (heldIds vars) s ⌝ }
+fn stmt_rows(raw: &[i16; 112], held: usize, s: Stmt) -> Rows
+    requires { ⌜ length (now raw) ≡ 112 ⌝ }
+    ensures { λ r. ⌜ r ≡ rowsOf (take held (asIds (now (raw .entry)))) s ⌝ }
 {
     let output = s.output;
     let first = s.first;
     let second = s.second;
     let o = output.operand();
-    let out = row_in(vars, o);
-    let a = row_in(vars, first);
-    let b = row_in(vars, second);
+    let out = row_in(raw, held, o);
+    let a = row_in(raw, held, first);
+    let b = row_in(raw, held, second);
     Rows {
         output: out,
         first: a,
@@ -136,11 +141,14 @@ pub fn block_rows(stmts: [Stmt; 129], n: usize, vars: Vars) -> [Rows; 129]
     requires { ⌜ n ≤ 129 ⌝ }
     ensures { λ r. ⌜ RowsAre (heldIds vars) (take n stmts) r ⌝ }
 {
+    let ids = vars.ids;
+    let held = vars.count;
+    let raw = numbers(ids);
     let mut out = no_rows();
     let mut i: usize = 0;
     while i < n {
         let s = stmts[i];
-        out[i] = stmt_rows(vars, s);
+        out[i] = stmt_rows(&raw, held, s);
         i += 1;
     }
     out

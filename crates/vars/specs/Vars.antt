@@ -1,9 +1,9 @@
 -- The block's variables in the order of first naming (output, first, second), the row of each, and where a limit is passed.
 use Prim.Native.Nat.{ℕ, zero, suc, _+_}
 use mathlib.Core.Bool.{Bool, true, false}
-use mathlib.Core.List.{List, [], _∷_, _++_}
+use mathlib.Core.List.{List, [], _∷_, _++_, map}
 use lib.Dec.{ltb}
-use lib.IntN.{pos}
+use lib.IntN.{ℤ, pos}
 use lib.ListN.{length, take, drop, set, replicate}
 use Rattle.pcode.specs.Var.{pick, sameId, asOperand}
 use Rattle.pcode.specs.Block.{hasId}
@@ -12,7 +12,6 @@ use Rattle.pcode.specs.declared.var.Operand.{Operand}
 use Rattle.pcode.specs.declared.var.Operand.the-variants.{None, Const, Var}
 use Rattle.pcode.specs.declared.block.Stmt.{Stmt}
 use Rattle.vars.specs.declared.Vars.{Vars}
-use Rattle.vars.specs.declared.Joined.{Joined}
 use Rattle.vars.specs.declared.Naming.{Naming}
 
 -- the id that an operand names
@@ -63,9 +62,6 @@ heldIds v = take (v .count) (v .ids)
 unfoldable pub noIds : List VarId
 noIds = replicate 112 (record { 0 = pos 0 })
 
-abbrev pub emptyVars : Vars
-emptyVars = record { ids = noIds; count = 0 }
-
 -- the table that holds a list's ids
 abbrev pub tableOf : List VarId → Vars
 tableOf l = record { ids = l ++ drop (length l) noIds; count = length l }
@@ -74,18 +70,27 @@ tableOf l = record { ids = l ++ drop (length l) noIds; count = length l }
 abbrev pub capOf : ℕ → ℕ
 capOf m = pick (ltb m 112) m 112
 
--- one id more, unless it is held or there is no room
-unfoldable pub joined : ℕ → Joined → VarId → Joined
-joined cap j id =
-    pick (j .over) j
-    (pick (ltb (rowOf (heldIds (j .vars)) id) (j .vars .count)) j
-    (pick (ltb (j .vars .count) cap)
-    (record { vars = record { ids = set (j .vars .ids) (j .vars .count) id; count = j .vars .count + 1 }; over = false })
-    (record { vars = j .vars; over = true })))
+abbrev pub asId : ℤ → VarId
+asId z = record { 0 = z }
 
-unfoldable pub joinedAll : ℕ → Joined → List VarId → Joined
-joinedAll cap j [] = j
-joinedAll cap j (x ∷ xs) = joinedAll cap (joined cap j x) xs
+-- numbers as ids
+abbrev pub asIds : List ℤ → List VarId
+asIds l = map asId l
+
+-- the first n numbers held, whatever the others are
+abbrev pub under : List ℤ → ℕ → Vars
+under l n = record { ids = asIds l; count = n }
+
+-- one id more, unless it is held; a count beyond cap says that one found no room
+unfoldable pub joined : ℕ → Vars → VarId → Vars
+joined cap v id =
+    pick (ltb cap (v .count)) v
+    (pick (ltb (rowOf (heldIds v) id) (v .count)) v
+    (record { ids = pick (ltb (v .count) cap) (set (v .ids) (v .count) id) (v .ids); count = v .count + 1 }))
+
+unfoldable pub joinedAll : ℕ → Vars → List VarId → Vars
+joinedAll cap v [] = v
+joinedAll cap v (x ∷ xs) = joinedAll cap (joined cap v x) xs
 
 -- the table of the statements before the first that names a variable beyond m, and its place
 abbrev pub namedOf : ℕ → List Stmt → Naming

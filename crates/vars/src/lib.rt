@@ -3,7 +3,7 @@ ghost use mathlib.Core.Path.{_≡_};
 ghost use mathlib.Core.Bool.{Bool, true, false};
 ghost use Prim.Native.Nat.{ℕ, _+_, _<_, _≤_};
 ghost use lib.ListN.{length, take, drop, getD, set};
-ghost use Rattle.vars.specs.Vars.{idsIn, idsOf, rowOf, heldIds, noIds, emptyVars, capOf, joined, joinedAll, namedOf};
+ghost use Rattle.vars.specs.Vars.{idsIn, idsOf, rowOf, heldIds, asIds, under, noIds, tableOf, capOf, joined, joinedAll, namedOf};
 use pcode::block::Stmt;
 use pcode::var::Operand;
 use pcode::var::VarId;
@@ -21,16 +21,21 @@ fn no_ids() -> [VarId; 112]
     [z; 112]
 }
 
-// The place of an id among the first `n` of `ids`; how many these are where it is not among them.
-fn row_in(ids: [VarId; 112], n: usize, id: VarId) -> usize
-    ensures { λ r. ⌜ r ≡ rowOf (take n ids) id ⌝ }
+fn no_numbers() -> [i16; 112] {
+    [0i16; 112]
+}
+
+// The place of an id among the first `n` numbers; how many these are where it is not among them.
+pub fn row_among(raw: &[i16; 112], n: usize, id: VarId) -> usize
+    requires { ⌜ length (now raw) ≡ 112 ⌝ }
+    ensures { λ r. ⌜ r ≡ rowOf (take n (asIds (now (raw .entry)))) id ⌝ }
 {
     let mut i: usize = 0;
     while i < 112 {
         if n <= i {
             return i;
         }
-        let x = ids[i];
+        let x = VarId(raw[i]);
         if x.same(id) {
             return i;
         }
@@ -39,28 +44,46 @@ fn row_in(ids: [VarId; 112], n: usize, id: VarId) -> usize
     i
 }
 
-impl Vars {
-    pub fn none() -> Vars
-        ensures { λ r. ⌜ r ≡ emptyVars ⌝ }
-    {
-        let ids = no_ids();
-        Vars { ids, count: 0 }
+// The numbers of ids, which can be lent.
+pub fn numbers(ids: [VarId; 112]) -> [i16; 112]
+    ensures { λ r. ⌜ asIds r ≡ ids ⌝ }
+{
+    let mut out = no_numbers();
+    let mut i: usize = 0;
+    while i < 112 {
+        let id = ids[i];
+        let x = id.0;
+        out[i] = x;
+        i += 1;
     }
+    out
+}
 
+impl Vars {
     // The row of an id; how many ids are held where it is not among them.
     pub fn row(self, id: VarId) -> usize
         ensures { λ r. ⌜ r ≡ rowOf (heldIds self) id ⌝ }
     {
         let ids = self.ids;
         let n = self.count;
-        row_in(ids, n, id)
+        let raw = numbers(ids);
+        row_among(&raw, n, id)
     }
 }
 
-// A table under way, and whether an id found no room in it.
-struct Joined {
-    vars: Vars,
-    over: bool,
+// The table of the first `n` numbers.
+fn table(raw: &[i16; 112], n: usize) -> Vars
+    requires { ⌜ (length (now raw) ≡ 112) × (n ≤ 112) ⌝ }
+    ensures { λ r. ⌜ r ≡ tableOf (take n (asIds (now (raw .entry)))) ⌝ }
+{
+    let mut ids = no_ids();
+    let mut i: usize = 0;
+    while i < n {
+        let x = raw[i];
+        ids[i] = VarId(x);
+        i += 1;
+    }
+    Vars { ids, count: n }
 }
 
 // At most 112 rows.
@@ -73,58 +96,48 @@ fn capped(most: usize) -> usize
     112
 }
 
-impl Joined {
-    // With one id more, unless it is held; a table of `cap` ids has no room.
-    fn with(self, cap: usize, id: VarId) -> Joined
-        requires { ⌜ cap ≤ 112 ⌝ }
-        ensures { λ r. ⌜ r ≡ joined cap self id ⌝ }
-    {
-        let over = self.over;
-        if over {
-            return self;
-        }
-        let vars = self.vars;
-        let n = vars.count;
-        if vars.row(id) < n {
-            return self;
-        }
-        if cap <= n {
-            return Joined { vars, over: true };
-        }
-        let mut out = vars;
-        out.ids[n] = id;
-        out.count = n + 1;
-        Joined {
-            vars: out,
-            over: false,
-        }
+// One id more after the first `n`, unless it is held; a count beyond `cap` says that one found no room.
+fn join(raw: &mut [i16; 112], n: usize, cap: usize, id: VarId) -> usize
+    requires { ⌜ (length (now raw) ≡ 112) × (cap ≤ 112) ⌝ }
+    ensures { λ r. ⌜ under (now (raw .exit)) r ≡ joined cap (under (now (raw .entry)) n) id ⌝ }
+{
+    if cap < n {
+        return n;
     }
+    if row_among(raw, n, id) < n {
+        return n;
+    }
+    if cap <= n {
+        return n + 1;
+    }
+    let x = id.0;
+    raw[n] = x;
+    n + 1
+}
 
-    fn operand(self, cap: usize, a: Operand) -> Joined
-        requires { ⌜ cap ≤ 112 ⌝ }
-        ensures { λ r. ⌜ r ≡ joinedAll cap self (idsIn a) ⌝ }
-    {
-        match a {
-            Operand::None => self,
-            Operand::Const(_, _) => self,
-            Operand::Var(v) => self.with(cap, v.id),
-        }
+fn join_operand(raw: &mut [i16; 112], n: usize, cap: usize, a: Operand) -> usize
+    requires { ⌜ (length (now raw) ≡ 112) × (cap ≤ 112) ⌝ }
+    ensures { λ r. ⌜ under (now (raw .exit)) r ≡ joinedAll cap (under (now (raw .entry)) n) (idsIn a) ⌝ }
+{
+    match a {
+        Operand::None => n,
+        Operand::Const(_, _) => n,
+        Operand::Var(v) => join(raw, n, cap, v.id),
     }
 }
 
-// The table with the ids of a statement.
-fn with_stmt(vars: Vars, cap: usize, s: Stmt) -> Joined
-    requires { ⌜ cap ≤ 112 ⌝ }
-    ensures { λ r. ⌜ r ≡ joinedAll cap (record { vars = vars; over = false }) (idsOf s) ⌝ }
+// The ids of a statement.
+fn join_stmt(raw: &mut [i16; 112], n: usize, cap: usize, s: Stmt) -> usize
+    requires { ⌜ (length (now raw) ≡ 112) × (cap ≤ 112) ⌝ }
+    ensures { λ r. ⌜ under (now (raw .exit)) r ≡ joinedAll cap (under (now (raw .entry)) n) (idsOf s) ⌝ }
 {
-    let start = Joined { vars, over: false };
     let output = s.output;
     let first = s.first;
     let second = s.second;
     let o = output.operand();
-    let a = start.operand(cap, o);
-    let b = a.operand(cap, first);
-    b.operand(cap, second)
+    let a = join_operand(raw, n, cap, o);
+    let b = join_operand(raw, a, cap, first);
+    join_operand(raw, b, cap, second)
 }
 
 // The variables of the statements before `place`, the first statement that names one beyond the limit.
@@ -138,21 +151,23 @@ pub fn named(stmts: [Stmt; 129], n: usize, most: usize) -> Naming
     ensures { λ r. ⌜ r ≡ namedOf (capOf most) (take n stmts) ⌝ }
 {
     let cap = capped(most);
-    let mut vars = Vars::none();
+    let mut raw = no_numbers();
+    let mut count: usize = 0;
     let mut i: usize = 0;
     while i < 129 {
         if n <= i {
+            let vars = table(&raw, count);
             return Naming { vars, place: i };
         }
         let s = stmts[i];
-        let j = with_stmt(vars, cap, s);
-        let over = j.over;
-        if over {
+        let next = join_stmt(&mut raw, count, cap, s);
+        if cap < next {
+            let vars = table(&raw, count);
             return Naming { vars, place: i };
         }
-        let next = j.vars;
-        vars = next;
+        count = next;
         i += 1;
     }
+    let vars = table(&raw, count);
     Naming { vars, place: i }
 }

@@ -8,23 +8,23 @@ use Rattle.live_tables.proofs.rows.stmt_rows.Lts as lts
 use Rattle.live_tables.proofs.rows.row_in.Reads as row-in-reads
 use Rattle.pcode.proofs.var.Output.operand.Reads as operand-reads
 
--- src/rows.rt:107:9
+-- src/rows.rt:119:9
 operand-requires : tie.Need-operand-requires
 operand-requires c κs = search needs
 
--- src/rows.rt:108:9
+-- src/rows.rt:120:9
 row-in-requires : tie.Need-row-in-requires
 row-in-requires c κs = search needs
 
--- src/rows.rt:109:9
+-- src/rows.rt:121:9
 row-in-requires-2 : tie.Need-row-in-requires-2
 row-in-requires-2 c κs = search needs
 
--- src/rows.rt:110:9
+-- src/rows.rt:122:9
 row-in-requires-3 : tie.Need-row-in-requires-3
 row-in-requires-3 c κs = search needs
 
--- src/rows.rt:101:1
+-- src/rows.rt:112:1
 returns : tie.Need-returns
 unfolding rowsOf
 returns c = rw (c .row-in3 .ensures, c .before .row-in2 .ensures, c .before .before .row-in .ensures, c .before .before .before .operand .ensures)
