@@ -76,7 +76,7 @@ pub both-checked : (c : Class) (ms : Marks) (answers : List ℕ) (b b₁ : Block
     → StartsAs (varsOf (held b)) rows start → StartsAs (varsOf (eliminated ms (held b₁))) rows′ start → freshRun ms answers (held b) rows ≡ true
     → Alike ms start (varsOf (held b)) (varsOf (eliminated ms (held b₁))) (runOf answers (held b) rows) (runOf answers (eliminated ms (held b₁)) rows′)
 both-checked c ms answers b b₁ ok class ok₁ class₁ one first =
-    both-alike ms answers (held b) (held b₁) (all-fit c b ok class) (all-fit c b₁ ok₁ class₁) (passing b ok .vars) (passing b₁ ok₁ .vars) one first
+    both-alike ms answers (held b) (held b₁) (all-fit c b ok class) (all-fit c b₁ ok₁ class₁) (passing secondLimits b ok .vars) (passing secondLimits b₁ ok₁ .vars) one first
 
 -- the second pass alone, of such a block
 pub checked-alike : (c : Class) (ms : Marks) (answers : List ℕ) (b : Block)

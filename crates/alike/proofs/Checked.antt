@@ -102,4 +102,4 @@ fits-from c block i (s ∷ ss) h g =
 pub all-fit : (c : Class) (b : Block) → checkOf secondLimits b ≡ Ok → ltb (firstOutside c (held b) 0 (held b)) (length (held b)) ≡ false → AllFit (held b)
 all-fit c b e h =
     let l = ltb-false (firstOutside c (held b) 0 (held b)) (length (held b)) h in
-    fits-from c (held b) 0 (held b) (omega arith) (passing b e .each)
+    fits-from c (held b) 0 (held b) (omega arith) (passing secondLimits b e .each)

@@ -255,17 +255,17 @@ module _ (c : Class) (ms : Marks) (b : Block) (ok : checkOf secondLimits b ≡ O
   small =
       let s = shorter derived in
       let m = length-take (b .count) (b .stmts) in
-      let n = passing b ok .stmts in
+      let n = passing secondLimits b ok .stmts in
       omega arith
 
   variables-left : length (varsOf left) ≤ 112
-  variables-left = let f = vars-without (deadOf (judge (persists ms (held b)) (held b))) (held b) in let n = passing b ok .vars in omega arith
+  variables-left = let f = vars-without (deadOf (judge (persists ms (held b)) (held b))) (held b) in let n = passing secondLimits b ok .vars in omega arith
 
   labels-ok-left : labelsFrom left 0 left ≡ Ok
   labels-ok-left =
       labels-ok left [] left refl
       (pass-left derived (goodLabel (held b)) (goodLabel left) (good-same (held b) left (labels-left derived)) [] [] (λ l. refl)
-      (labels-pass (held b) [] (held b) refl (passing b ok .labels)))
+      (labels-pass (held b) [] (held b) refl (passing secondLimits b ok .labels)))
 
   -- it passes the checks
   pub left-checked : checkOf secondLimits (blockOf left) ≡ Ok

@@ -6,15 +6,17 @@ use mathlib.Core.Path.{_≡_, refl, sym, ap}
 use mathlib.Core.Bool.{Bool, true, false, true≢false}
 use mathlib.Core.List.{List, [], _∷_}
 use lib.Dec.{ltb}
-use lib.ListN.{length, getD}
+use lib.ListN.{length, getD, length-take}
 use borrow.Author.Tests.{ltb-false}
 use Rattle.pcode.specs.Var.{pick}
-use Rattle.pcode.specs.Block.{held, blankStmt, secondLimits}
+use Rattle.pcode.specs.Block.{held, blankStmt}
 use Rattle.pcode.specs.declared.var.VarId.{VarId}
 use Rattle.pcode.specs.declared.block.Stmt.{Stmt}
 use Rattle.pcode.specs.declared.block.Block.{Block}
+use Rattle.pcode.specs.declared.block.Limits.{Limits}
 use Rattle.pcode.specs.declared.refusal.Refusal.{Refusal}
-use Rattle.vars.specs.Vars.{idsOf, joinIds, varsFrom, varsOf, overFrom, tooMany}
+use Rattle.vars.specs.Vars.{idsOf, joinIds, varsFrom, varsOf, overFrom, tooMany, capOf}
+use Rattle.text.specs.Reading.{roomOf}
 use Rattle.text.specs.declared.answer.Answer.{Answer}
 use Rattle.text.specs.declared.answer.Answer.the-variants.{Ok, Refused}
 use Rattle.checks.specs.Statements.{goodParts, metNeeds, goodSizes, stmtCheck, elseThen, checksFrom}
@@ -57,9 +59,10 @@ both-ok (Refused why) next e = absurd (never e)
 pub last-ok : (t : Bool) (why : Refusal) → pick t (Refused why) Ok ≡ Ok → t ≡ false
 last-ok t why e = first-ok t why Ok e .0
 
-few : (ss : List Stmt) → variables 112 ss ≡ Ok → length (varsOf ss) ≤ 112
+-- statements that 7 does not meet
+few : (most : ℕ) (ss : List Stmt) → variables most ss ≡ Ok → length (varsOf ss) ≤ capOf most
 unfolding variables varsOf
-few ss e = within 112 [] ss (omega arith) (ltb-false (tooMany 112 ss) (length ss) (last-ok _ _ e))
+few most ss e = within (capOf most) [] ss (omega arith) (ltb-false (tooMany (capOf most) ss) (length ss) (last-ok _ _ e))
 
 -- a statement that no check refuses
 pub record Good (s : Stmt) : Type 0 where
@@ -81,18 +84,28 @@ every k [] e i h = absurd (omega arith)
 every k (s ∷ ss) e zero h = good k s (both-ok (stmtCheck k s) (checksFrom (k + 1) ss) e .0)
 every k (s ∷ ss) e (suc i) h = every (k + 1) ss (both-ok (stmtCheck k s) (checksFrom (k + 1) ss) e .1) i (omega arith)
 
--- a block that passes them with the second pass's limits
-pub record Passing (b : Block) : Type 0 where
-  pub stmts : b .count ≤ 129
-  pub vars : length (varsOf (held b)) ≤ 112
+-- a block that passes them, with either pass's limits
+pub record Passing (limits : Limits) (b : Block) : Type 0 where
+  pub stmts : b .count ≤ roomOf (limits .stmts)
+  pub short : length (held b) ≤ roomOf (limits .stmts)
+  pub vars : length (varsOf (held b)) ≤ capOf (limits .vars)
+  pub checked : checksFrom 0 (held b) ≡ Ok
   pub each : (i : ℕ) → i < length (held b) → Good (getD (held b) i blankStmt)
   pub labels : labelsFrom (held b) 0 (held b) ≡ Ok
 
-pub passing : (b : Block) → checkOf secondLimits b ≡ Ok → Passing b
+pub passing : (limits : Limits) (b : Block) → checkOf limits b ≡ Ok → Passing limits b
 unfolding checkOf
-passing b e =
+passing limits b e =
     let x = first-ok _ _ _ e in
     let labels = labelsFrom (held b) 0 (held b) in
-    let y = both-ok (checksFrom 0 (held b)) (elseThen (variables 112 (held b)) labels) (x .1) in
-    let z = both-ok (variables 112 (held b)) labels (y .1) in
-    record { stmts = ltb-false 129 (b .count) (x .0); vars = few (held b) (z .0); each = every 0 (held b) (y .0); labels = z .1 }
+    let y = both-ok (checksFrom 0 (held b)) (elseThen (variables (limits .vars) (held b)) labels) (x .1) in
+    let z = both-ok (variables (limits .vars) (held b)) labels (y .1) in
+    let n = ltb-false (roomOf (limits .stmts)) (b .count) (x .0) in
+    record {
+      stmts = n;
+      short = omega (arith, n, length-take (b .count) (b .stmts));
+      vars = few (limits .vars) (held b) (z .0);
+      checked = y .0;
+      each = every 0 (held b) (y .0);
+      labels = z .1;
+    }

@@ -17,7 +17,7 @@ fn good_size(n: u8) -> bool
     if n == 0 {
         return false;
     }
-    n <= 16
+    n <= Operand::MAX_BYTES
 }
 
 // A part of a variable: an id other than 0, a good size, and no byte past the 16th.
@@ -33,7 +33,7 @@ fn good_node(v: VarNode) -> bool
         return false;
     }
     let o = v.offset;
-    (o as u16) + (n as u16) <= 16
+    (o as u16) + (n as u16) <= Operand::MAX_BYTES as u16
 }
 
 fn good_operand(a: Operand) -> bool

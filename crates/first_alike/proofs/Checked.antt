@@ -22,7 +22,7 @@ use Rattle.text.specs.declared.answer.Answer.the-variants.{Ok, Refused}
 use Rattle.checks.specs.Statements.{goodParts, metNeeds, goodSizes, stmtCheck, elseThen, checksFrom}
 use Rattle.checks.specs.Labels.{labelsFrom}
 use Rattle.checks.specs.Checks.{variables, checkOf}
-use Rattle.checks.proofs.Passing.{Good}
+use Rattle.checks.proofs.Passing.{Good, both-ok, good, passing}
 use Rattle.machine.specs.Class.{ownClass, inClass, backward, outside, firstOutside}
 use Rattle.const_prop.specs.Pass.{propagatedOf}
 use Rattle.alike.specs.Premises.{AllShort}
@@ -30,45 +30,6 @@ use Rattle.alike.proofs.Tables.{AllKnown, all-known}
 use Rattle.alike.proofs.Checked.{fit-of}
 use Rattle.alike.proofs.Both.{FirstAlike}
 use Rattle.first_alike.proofs.Walks.{Runs, AllRun, first-alike}
-
--- an answer that is no refusal
-refused : {R : Type 0} (why : Refusal) → _≡_ {A = Answer} (Refused why) Ok → R
-refused why e = absurd (let z : _≡_ {A = ℕ} 0 1 = cc in omega arith)
-
-first-ok : (t : Bool) (why : Refusal) (next : Answer) → pick t (Refused why) next ≡ Ok → (t ≡ false) × (next ≡ Ok)
-first-ok true why next e = refused why e
-first-ok false why next e = (refl, e)
-
-then-ok : (t : Bool) (why : Refusal) (next : Answer) → pick t next (Refused why) ≡ Ok → (t ≡ true) × (next ≡ Ok)
-then-ok true why next e = (refl, e)
-then-ok false why next e = refused why e
-
-both-ok : (a next : Answer) → elseThen a next ≡ Ok → (a ≡ Ok) × (next ≡ Ok)
-both-ok Ok next e = (refl, e)
-both-ok (Refused why) next e = refused why e
-
-good : (i : ℕ) (s : Stmt) → stmtCheck i s ≡ Ok → Good s
-unfolding stmtCheck
-good i s e =
-    let x = then-ok (goodParts s) _ _ e in
-    let y = then-ok (metNeeds s) _ _ (x .1) in
-    let z = then-ok (goodSizes s) _ _ (y .1) in
-    record { parts = x .0; needs = y .0; sizes = z .0 }
-
--- at most m variables
-within : (m : ℕ) (l : List VarId) (ss : List Stmt) → length l ≤ m → length ss ≤ overFrom m l ss → length (varsFrom l ss) ≤ m
-unfolding overFrom varsFrom
-within m l [] h g = h
-within m l (s ∷ ss) h g = step (ltb m (length (joinIds l (idsOf s)))) refl g (within m (joinIds l (idsOf s)) ss)
-  where
-    step : (t : Bool) → ltb m (length (joinIds l (idsOf s))) ≡ t → suc (length ss) ≤ pick t 0 (suc (overFrom m (joinIds l (idsOf s)) ss))
-        → (length (joinIds l (idsOf s)) ≤ m → length ss ≤ overFrom m (joinIds l (idsOf s)) ss → length (varsFrom (joinIds l (idsOf s)) ss) ≤ m) → length (varsFrom (joinIds l (idsOf s)) ss) ≤ m
-    step true e g rest = absurd (omega (arith, g))
-    step false e g rest = rest (ltb-false m (length (joinIds l (idsOf s))) e) (omega (arith, g))
-
-few : (ss : List Stmt) → variables 48 ss ≡ Ok → length (varsOf ss) ≤ 48
-unfolding variables varsOf
-few ss e = within 48 [] ss (omega arith) (ltb-false (tooMany 48 ss) (length ss) (first-ok _ _ Ok e .0))
 
 -- no statement is outside the class: each is in it
 in-class : (x b : Bool) → pick x b true ≡ false → x ≡ true
@@ -104,42 +65,20 @@ runs-from ids block i (st ∷ ss) h e k s =
           rest (omega arith),
         )
 
-take-most : (n : ℕ) (l : List Stmt) → length (take n l) ≤ n
-take-most zero l = omega arith
-take-most (suc n) [] = omega arith
-take-most (suc n) (x ∷ l) = let q = take-most n l in omega (arith, q)
-
--- a block that passes the first pass's checks
-pub record Accepted (b : Block) : Type 0 where
-  pub stmts : length (held b) ≤ 64
-  pub vars : length (varsOf (held b)) ≤ 48
-  pub checks : checksFrom 0 (held b) ≡ Ok
-
-pub accepted : (b : Block) → checkOf firstLimits b ≡ Ok → Accepted b
-unfolding checkOf
-accepted b e =
-    let x = first-ok _ _ _ e in
-    let labels = labelsFrom (held b) 0 (held b) in
-    let y = both-ok (checksFrom 0 (held b)) (elseThen (variables 48 (held b)) labels) (x .1) in
-    let z = both-ok (variables 48 (held b)) labels (y .1) in
-    let c = ltb-false 64 (b .count) (x .0) in
-    let m = take-most (b .count) (b .stmts) in
-    record { stmts = omega (arith, c, m); vars = few (held b) (z .0); checks = y .0 }
-
 -- the first pass's result runs as the block does, for any table of its variables
 pub first-checked : (ms : Marks) (answers : List ℕ) (b : Block) (vars : Vars) → checkOf firstLimits b ≡ Ok
     → ltb (firstOutside ownClass (held b) 0 (held b)) (length (held b)) ≡ false → AllShort (held b) → heldIds vars ≡ varsOf (held b)
     → propagatedOf vars ms (held b) .answer ≡ Ok → FirstAlike ms answers (held b) (held (propagatedOf vars ms (held b) .block))
 first-checked ms answers b vars ok class short table done =
-    let a = accepted b ok in
+    let a = passing firstLimits b ok in
     let c = ltb-false (firstOutside ownClass (held b) 0 (held b)) (length (held b)) class in
-    let r = runs-from (varsOf (held b)) (held b) 0 (held b) (omega arith) (a .checks) (all-known (held b)) short in
+    let r = runs-from (varsOf (held b)) (held b) 0 (held b) (omega arith) (a .checked) (all-known (held b)) short in
     first-alike ms answers (held b) vars table (subst (λ (l : List VarId). length l ≤ 48) (sym table) (a .vars))
-    (subst (λ (l : List VarId). AllRun l (held b)) (sym table) r) (a .stmts) done
+    (subst (λ (l : List VarId). AllRun l (held b)) (sym table) r) (a .short) done
 
 -- the block's own table is one
 pub first-named : (ms : Marks) (answers : List ℕ) (b : Block) → checkOf firstLimits b ≡ Ok
     → ltb (firstOutside ownClass (held b) 0 (held b)) (length (held b)) ≡ false → AllShort (held b) → propagatedOf (namedOf 48 (held b) .vars) ms (held b) .answer ≡ Ok
     → FirstAlike ms answers (held b) (held (propagatedOf (namedOf 48 (held b) .vars) ms (held b) .block))
 first-named ms answers b ok class short done =
-    first-checked ms answers b (namedOf 48 (held b) .vars) ok class short (named-held 48 (held b) (accepted b ok .vars)) done
+    first-checked ms answers b (namedOf 48 (held b) .vars) ok class short (named-held 48 (held b) (passing firstLimits b ok .vars)) done

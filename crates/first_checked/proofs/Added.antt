@@ -6,7 +6,7 @@ use mathlib.Core.List.{List, [], _∷_, _++_}
 use native.Mathlib.Omega.{arith}
 use lib.ListN.{length, length-append}
 use Rattle.pcode.specs.Var.{sameId}
-use Rattle.pcode.specs.Block.{held, hasId}
+use Rattle.pcode.specs.Block.{held, hasId, firstLimits}
 use Rattle.pcode.specs.declared.var.VarId.{VarId}
 use Rattle.pcode.specs.declared.var.PcodeLabel.{PcodeLabel}
 use Rattle.pcode.specs.declared.block.Stmt.{Stmt}
@@ -21,12 +21,13 @@ use Rattle.widen.specs.declared.widen.Skip.the-variants as Skips
 use Rattle.const_step.specs.Labels.{branchOf, labelStmt, endOf}
 use Rattle.const_prop.specs.Pass.{stmtsOf}
 use Rattle.alike.proofs.Fewer.{Within as Among, distinct-vars, fewer}
+use Rattle.checks.proofs.Passing.{passing}
 use Rattle.first_checked.specs.Results.{Given, InRoom}
 use Rattle.first_checked.proofs.Fine.{Fine, fine-within, within-more}
 use Rattle.first_checked.proofs.Ids.{AllFine, vars-hold, fine-names, among-right}
 use Rattle.first_checked.proofs.Gives.{Gives, drops, skips, copies, stays, widens}
 use Rattle.first_checked.proofs.Walk.{Step, turns, passes, lost, kept, meets, Walks, ends, goes}
-use Rattle.first_checked.proofs.First.{first, first-walk}
+use Rattle.first_checked.proofs.First.{first-walk}
 
 -- an added branch and a kept label
 branch-fine : (ids : List VarId) (t : PcodeLabel) → Fine ids (branchOf t)
@@ -134,13 +135,13 @@ module _ {b : Block} {vars : Vars} {m : Marks} {l : List Stmt} (g : Given b vars
       let h = fewer (varsOf l) ids (distinct-vars [] l tt) (vars-hold (λ (id : VarId). hasId ids id ≡ true) [] l (λ id q. absurd (false≢true q)) (fine-names ids l (a .fine))) in
       let n = length-append (a .new) (heldIds vars) in
       let t = ap length (g .table) in
-      let f = first b (g .checked) in
+      let f = passing firstLimits b (g .checked) in
       omega (arith, h, n, t, a .few, f .vars)
 
   -- as many statements and variables as the second pass takes
   pub result-room : InRoom l
   result-room =
       let h = walks-short (heldIds vars) (first-walk g) in
-      let f = first b (g .checked) .stmts in
+      let f = passing firstLimits b (g .checked) .short in
       let v = few-vars in
       record { stmts = omega (arith, h, f); vars = omega (arith, v, f) }

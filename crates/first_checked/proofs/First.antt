@@ -17,7 +17,7 @@ use Rattle.text.specs.declared.answer.Answer.the-variants.{Ok}
 use Rattle.checks.specs.Statements.{elseThen, checksFrom}
 use Rattle.checks.specs.Labels.{goodLabel, labelsFrom}
 use Rattle.checks.specs.Checks.{variables, checkOf}
-use Rattle.checks.proofs.Passing.{within, first-ok, both-ok, last-ok}
+use Rattle.checks.proofs.Passing.{passing}
 use Rattle.widen.specs.declared.widen.Skip.the-variants as Skips
 use Rattle.const_prop.specs.Pass.{startWalk, temporaryFlags}
 use Rattle.alike.proofs.Kept.{AllPass, labels-pass}
@@ -26,31 +26,9 @@ use Rattle.first_checked.proofs.Fine.{NoZero}
 use Rattle.first_checked.proofs.Ids.{AllFine, no-zero-vars, checked-fine}
 use Rattle.first_checked.proofs.Walk.{Walks, walked, start-sure}
 
--- what the checks give of a block
-pub record First (b : Block) : Type 0 where
-  pub stmts : length (held b) ≤ 64
-  pub vars : length (varsOf (held b)) ≤ 48
-  pub each : checksFrom 0 (held b) ≡ Ok
-  pub labels : labelsFrom (held b) 0 (held b) ≡ Ok
-
-few : (ss : List Stmt) → variables 48 ss ≡ Ok → length (varsOf ss) ≤ 48
-unfolding variables varsOf
-few ss e = within 48 [] ss (omega arith) (ltb-false (tooMany 48 ss) (length ss) (last-ok _ _ e))
-
-pub first : (b : Block) → checkOf firstLimits b ≡ Ok → First b
-unfolding checkOf
-first b e =
-    let x = first-ok _ _ _ e in
-    let labels = labelsFrom (held b) 0 (held b) in
-    let y = both-ok (checksFrom 0 (held b)) (elseThen (variables 48 (held b)) labels) (x .1) in
-    let z = both-ok (variables 48 (held b)) labels (y .1) in
-    let n = ltb-false 64 (b .count) (x .0) in
-    let m = length-take (b .count) (b .stmts) in
-    record { stmts = omega (arith, n, m); vars = few (held b) (z .0); each = y .0; labels = z .1 }
-
 -- the table that names the block's variables holds them
 pub first-table : (m : ℕ) (b : Block) → 48 ≤ m → checkOf firstLimits b ≡ Ok → heldIds (namedOf m (held b) .vars) ≡ varsOf (held b)
-first-table m b h e = let n = first b e .vars in named-held m (held b) (omega (arith, n, h))
+first-table m b h e = let n = passing firstLimits b e .vars in named-held m (held b) (omega (arith, n, h))
 
 module _ {b : Block} {vars : Vars} {m : Marks} {l : List Stmt} (g : Given b vars m l) where
   abbrev ids : List VarId
@@ -58,7 +36,7 @@ module _ {b : Block} {vars : Vars} {m : Marks} {l : List Stmt} (g : Given b vars
 
   all-fine : AllFine ids (held b)
   unfolding varsOf
-  all-fine = checked-fine ids [] 0 (held b) (λ id h. ap (λ (x : List VarId). hasId x id) (g .table) ∙ h) (first b (g .checked) .each)
+  all-fine = checked-fine ids [] 0 (held b) (λ id h. ap (λ (x : List VarId). hasId x id) (g .table) ∙ h) (passing firstLimits b (g .checked) .checked)
 
   no-zero : NoZero ids
   unfolding varsOf
@@ -67,12 +45,12 @@ module _ {b : Block} {vars : Vars} {m : Marks} {l : List Stmt} (g : Given b vars
   -- the pass's result is the walk's
   pub first-walk : Walks ids [] Skips.None (held b) l
   first-walk =
-      let n = first b (g .checked) in
+      let n = passing firstLimits b (g .checked) in
       let t : length ids ≤ 48 = (let z = ap length (g .table) in let y = n .vars in omega (arith, z, y)) in
-      let h = start-sure vars no-zero (4 * length (held b)) (let z = n .stmts in omega (arith, z)) t in
+      let h = start-sure vars no-zero (4 * length (held b)) (let z = n .short in omega (arith, z)) t in
       let r = walked vars no-zero (temporaryFlags m (take 48 (vars .ids))) (held b) 0 startWalk (held b) l h all-fine (g .given) in
       subst (λ (x : List Stmt). Walks ids [] Skips.None (held b) x) (r .is) (r .walk)
 
   -- the block's labels pass the checks
   pub block-labels : AllPass (goodLabel (held b)) [] (held b)
-  block-labels = labels-pass (held b) [] (held b) refl (first b (g .checked) .labels)
+  block-labels = labels-pass (held b) [] (held b) refl (passing firstLimits b (g .checked) .labels)

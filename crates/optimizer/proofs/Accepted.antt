@@ -8,4 +8,4 @@ use Rattle.checks.proofs.Passing.{passing}
 use Rattle.dead_store.specs.Stays.{Ready}
 
 pub ready : (b : Block) → checkOf secondLimits b ≡ Ok → Ready b
-ready b e = let p = passing b e in record { stmts = p .stmts; vars = p .vars }
+ready b e = let p = passing secondLimits b e in record { stmts = p .stmts; vars = p .vars }

@@ -24,7 +24,6 @@ use Rattle.dead_store.specs.Stays.{without, judge, deadOf, persists}
 use Rattle.optimizer.specs.First.{tableFor, treatedBy, firstBy, firstOf}
 use Rattle.optimizer.specs.Second.{secondBy, secondOf}
 use Rattle.optimizer.specs.Both.{bothBy, bothOf}
-use Rattle.optimizer.proofs.Standing.{first}
 
 -- a refused step leaves an empty block
 by-why : (y : Why) (i n : ℕ) (next : Propagated) → next .block .count ≤ n → answerBy y i next .block .count ≤ n
@@ -68,7 +67,7 @@ module _ (b : Block) (m : Marks) where
       go : (a : Answer) → checkOf firstLimits b ≡ a → firstBy a b m .answer ≡ Ok → firstBy a b m .block .count ≤ 129
       go Ok c e =
           let p = propagatedOf (tableFor (held b)) m (held b) in
-          walked p (omega (arith, walk-few (envOf (tableFor (held b)) m (held b)) 0 startWalk (held b), length-take (b .count) (b .stmts), first b c .stmts)) (p .answer) e
+          walked p (omega (arith, walk-few (envOf (tableFor (held b)) m (held b)) 0 startWalk (held b), length-take (b .count) (b .stmts), passing firstLimits b c .stmts)) (p .answer) e
       go (Refused why) c e = absurd (never e)
 
   pub second-few : secondOf b m .answer ≡ Ok → secondOf b m .block .count ≤ 129
@@ -77,7 +76,7 @@ module _ (b : Block) (m : Marks) where
       go : (a : Answer) → checkOf secondLimits b ≡ a → secondBy a b m .answer ≡ Ok → secondBy a b m .block .count ≤ 129
       go Ok c e =
           let h = without-few (deadOf (judge (persists m (held b)) (held b))) (held b) in
-          omega (arith, h, passing b c .stmts, length-take (b .count) (b .stmts))
+          omega (arith, h, passing secondLimits b c .stmts, length-take (b .count) (b .stmts))
       go (Refused why) c e = absurd (never e)
 
 pub both-few : (b : Block) (m : Marks) → bothOf b m .answer ≡ Ok → bothOf b m .block .count ≤ 129

@@ -27,49 +27,12 @@ use Rattle.text.specs.declared.answer.Answer.the-variants.{Ok}
 use Rattle.checks.specs.Statements.{goodSize, goodNode, goodOperand, goodParts, elseThen, checksFrom}
 use Rattle.checks.specs.Labels.{labelsFrom}
 use Rattle.checks.specs.Checks.{variables, checkOf}
-use Rattle.checks.proofs.Passing.{Good, within, first-ok, both-ok, last-ok, every}
+use Rattle.checks.proofs.Passing.{Good, Passing, passing}
+use Rattle.checks.proofs.Parts.{chosen, size-in, node-in, has-left, has-right}
 use Rattle.const_eval.specs.Known.{Fit}
 use Rattle.uses.specs.Operands.{placeOf, InOperand}
 use Rattle.simplify.specs.Simplify.{InOutput}
 use Rattle.const_prop.specs.Pass.{InStore, Stands}
-
--- what the checks with the first pass's limits give of a block
-pub record First (b : Block) : Type 0 where
-  pub stmts : b .count ≤ 64
-  pub vars : length (varsOf (held b)) ≤ 48
-  pub each : (i : ℕ) → i < length (held b) → Good (getD (held b) i blankStmt)
-
-few : (ss : List Stmt) → variables 48 ss ≡ Ok → length (varsOf ss) ≤ 48
-unfolding variables varsOf
-few ss e = within 48 [] ss (omega arith) (ltb-false (tooMany 48 ss) (length ss) (last-ok _ _ e))
-
-pub first : (b : Block) → checkOf firstLimits b ≡ Ok → First b
-unfolding checkOf
-first b e =
-    let x = first-ok _ _ _ e in
-    let labels = labelsFrom (held b) 0 (held b) in
-    let y = both-ok (checksFrom 0 (held b)) (elseThen (variables 48 (held b)) labels) (x .1) in
-    let z = both-ok (variables 48 (held b)) labels (y .1) in
-    record { stmts = ltb-false 64 (b .count) (x .0); vars = few (held b) (z .0); each = every 0 (held b) (y .0) }
-
--- a choice that came out true
-chosen : (t u : Bool) → pick t u false ≡ true → (t ≡ true) × (u ≡ true)
-chosen true u e = (refl, e)
-chosen false u e = absurd (true≢false (sym e))
-
-refused : (t u : Bool) → pick t false u ≡ true → u ≡ true
-refused true u e = absurd (true≢false (sym e))
-refused false u e = e
-
-size-in : (n : ℕ) → goodSize n ≡ true → n ≤ 16
-unfolding goodSize
-size-in n e = leb-true n 16 (refused (eqb n 0) (leb n 16) e)
-
-node-in : (v : VarNode) → goodNode v ≡ true → v .offset + v .size ≤ 16
-unfolding goodNode
-node-in v e =
-    let x = chosen (goodSize (v .size)) (leb (v .offset + v .size) 16) (refused (zeroId (v .id)) _ e) in
-    leb-true (v .offset + v .size) 16 (x .1)
 
 -- an operand whose ids the table holds
 operand-in : (vars : Vars) (a : Operand) → length (heldIds vars) ≤ 48 → goodOperand a ≡ true → ((id : VarId) → hasId (idsIn a) id ≡ true → hasId (heldIds vars) id ≡ true)
@@ -83,24 +46,6 @@ operand-in vars (Var v) h e n =
 output-in : (vars : Vars) (o : Output) → InOperand 48 vars (asOperand o) → InOutput 48 vars o
 output-in vars Out.None i = tt
 output-in vars (Out.Var v) i = i
-
-or-left : (t u v : Bool) → (u ≡ true → v ≡ true) → (t || u) ≡ true → (t || v) ≡ true
-or-left true u v f e = refl
-or-left false u v f e = f e
-
-or-right : (t u : Bool) → u ≡ true → (t || u) ≡ true
-or-right true u e = refl
-or-right false u e = e
-
-has-left : (xs ys : List VarId) (id : VarId) → hasId xs id ≡ true → hasId (xs ++ ys) id ≡ true
-unfolding hasId
-has-left [] ys id e = absurd (true≢false (sym e))
-has-left (x ∷ xs) ys id e = or-left (sameId x id) (hasId xs id) (hasId (xs ++ ys) id) (has-left xs ys id) e
-
-has-right : (xs ys : List VarId) (id : VarId) → hasId ys id ≡ true → hasId (xs ++ ys) id ≡ true
-unfolding hasId
-has-right [] ys id e = e
-has-right (x ∷ xs) ys id e = or-right (sameId x id) (hasId (xs ++ ys) id) (has-right xs ys id e)
 
 -- a good statement whose ids the table holds
 in-store : (vars : Vars) (s : Stmt) → length (heldIds vars) ≤ 48 → Good s → ((id : VarId) → hasId (idsOf s) id ≡ true → hasId (heldIds vars) id ≡ true) → InStore vars s
@@ -122,7 +67,7 @@ table-length l h = length-append l (drop (length l) noIds) ∙ (let q = length-d
 -- a checked block stands in the store
 pub standing : (b : Block) (vars : Vars) → length (b .stmts) ≡ 129 → checkOf firstLimits b ≡ Ok → vars ≡ namedOf (capOf 48) (held b) .vars → Stands (b .stmts) (b .count) vars
 standing b vars l e q =
-    let f = first b e in
+    let f = passing firstLimits b e in
     let held-is : heldIds vars ≡ varsOf (held b) = ap heldIds q ∙ named-held 48 (held b) (f .vars) in
     let n : length (heldIds vars) ≤ 48 = subst (λ (k : List VarId). length k ≤ 48) (sym held-is) (f .vars) in
     let c : length (held b) ≡ b .count = length-take-le (b .count) (b .stmts) (omega (arith, l, f .stmts)) in
@@ -134,7 +79,7 @@ standing b vars l e q =
           (in-store vars (getD (held b) i blankStmt) n (f .each i (omega (arith, c, h))) (λ id k. subst (λ (z : List VarId). hasId z id ≡ true) (sym held-is) (named-has (held b) i blankStmt id (omega (arith, c, h)) k)));
     }
   where
-    short : (b : Block) → First b → length (varsOf (take (tooMany 48 (held b)) (held b))) ≤ 112
+    short : (b : Block) → Passing firstLimits b → length (varsOf (take (tooMany 48 (held b)) (held b))) ≤ 112
     short b f =
         let l = varsOf (take (tooMany 48 (held b)) (held b)) in
         let q : l ≡ varsOf (held b) = sym (take-append-seam l (drop (length l) noIds)) ∙ named-held 48 (held b) (f .vars) in

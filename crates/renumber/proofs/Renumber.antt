@@ -165,6 +165,6 @@ pub checked-held : (b : Block) → checkOf secondLimits b ≡ Ok → (ids : List
 checked-held b e ids m h =
     held-all ids (held b)
     (λ i k.
-    let p = passing b e in
+    let p = passing secondLimits b e in
     let r = ready ids m (getD (held b) i blankStmt) (λ id g. h id (named-has (held b) i blankStmt id k g)) (p .each i k) [] (λ r j. lit< tt) in
     record { first = r .operands .first; second = r .operands .second; output = r .output })

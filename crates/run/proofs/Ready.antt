@@ -24,74 +24,37 @@ use Rattle.text.specs.declared.answer.Answer.the-variants.{Ok}
 use Rattle.checks.specs.Statements.{goodSize, goodNode, goodOperand, there, goodParts, metNeeds, goodSizes}
 use Rattle.checks.specs.Checks.{checkOf}
 use Rattle.checks.proofs.Passing.{Good, passing}
+use Rattle.checks.proofs.Parts.{chosen, size-in, node-in, has-left, has-right}
 use Rattle.concrete.specs.Fits.{Applies}
 use Rattle.machine.specs.Values.{Bytes, valueIn, HeldOperand, HeldOutput, ReadyOut}
 use Rattle.machine.proofs.Checked.{Passed, applies, value-below}
 use Rattle.run.specs.Run.{Runnable}
-
-both : (x y : Bool) → pick x y false ≡ true → (x ≡ true) × (y ≡ true)
-both true y e = (refl, e)
-both false y e = absurd (true≢false (sym e))
 
 -- the size of an output is its operand's
 out-size : (o : Output) → sizeOf (asOperand o) ≡ sizeOut o
 out-size Out.None = refl
 out-size (Out.Var v) = refl
 
--- a part in range ends within its row
-ends : (v : VarNode) → goodNode v ≡ true → v .offset + v .size ≤ 16
-unfolding goodNode
-ends v e = by (zeroId (v .id)) (goodSize (v .size)) e where
-  by : (z g : Bool) → pick z false (pick g (leb (v .offset + v .size) 16) false) ≡ true → v .offset + v .size ≤ 16
-  by true g e = absurd (true≢false (sym e))
-  by false true e = leb-true (v .offset + v .size) 16 e
-  by false false e = absurd (true≢false (sym e))
-
-small : (n : ℕ) → goodSize n ≡ true → n ≤ 16
-unfolding goodSize
-small n e = by (eqb n 0) e where
-  by : (z : Bool) → pick z false (leb n 16) ≡ true → n ≤ 16
-  by true e = absurd (true≢false (sym e))
-  by false e = leb-true n 16 e
-
 -- an operand in range whose ids a table has is held
 held-operand : (ids : List VarId) → length ids ≤ 112 → (a : Operand) → ((id : VarId) → hasId (idsIn a) id ≡ true → hasId ids id ≡ true) → goodOperand a ≡ true → HeldOperand ids a
 unfolding hasId
 held-operand ids m None h g = tt
-held-operand ids m (Const v n) h g = small n g
-held-operand ids m (Var v) h g = record { named = h (v .id) (ap (λ (t : Bool). t || false) (sameId-refl (v .id))); room = m; inside = ends v g }
+held-operand ids m (Const v n) h g = size-in n g
+held-operand ids m (Var v) h g = record { named = h (v .id) (ap (λ (t : Bool). t || false) (sameId-refl (v .id))); room = m; inside = node-in v g }
 
 held-output : (ids : List VarId) (o : Output) → HeldOperand ids (asOperand o) → HeldOutput ids o
 held-output ids Out.None h = tt
 held-output ids (Out.Var v) h = h
-
-or-keeps : (t x y : Bool) → (x ≡ true → y ≡ true) → (t || x) ≡ true → (t || y) ≡ true
-or-keeps true x y f e = refl
-or-keeps false x y f e = f e
-
-or-right : (t x : Bool) → x ≡ true → (t || x) ≡ true
-or-right true x e = refl
-or-right false x e = e
-
-has-left : (l m : List VarId) (id : VarId) → hasId l id ≡ true → hasId (l ++ m) id ≡ true
-unfolding hasId
-has-left [] m id e = absurd (true≢false (sym e))
-has-left (x ∷ l) m id e = or-keeps (sameId x id) (hasId l id) (hasId (l ++ m) id) (has-left l m id) e
-
-has-right : (l m : List VarId) (id : VarId) → hasId m id ≡ true → hasId (l ++ m) id ≡ true
-unfolding hasId
-has-right [] m id e = e
-has-right (x ∷ l) m id e = or-right (sameId x id) (hasId (l ++ m) id) (has-right l m id e)
 
 -- a good statement whose ids a table has may be run at every state
 pub ready : (ids : List VarId) → length ids ≤ 112 → (s : Stmt) → ((id : VarId) → hasId (idsOf s) id ≡ true → hasId ids id ≡ true) → Good s → (rows : List (List ℕ)) → Bytes rows → ReadyOut ids rows s
 unfolding goodParts metNeeds goodSizes
 ready ids m s h g rows b =
     let o = asOperand (s .output) in
-    let p = both (goodOperand o) _ (g .parts) in
-    let q = both (goodOperand (s .first)) _ (p .1) in
-    let x = both (meets (outputNeed (s .op)) (there o)) _ (g .needs) in
-    let y = both (meets (firstNeed (s .op)) (there (s .first))) _ (x .1) in
+    let p = chosen (goodOperand o) _ (g .parts) in
+    let q = chosen (goodOperand (s .first)) _ (p .1) in
+    let x = chosen (meets (outputNeed (s .op)) (there o)) _ (g .needs) in
+    let y = chosen (meets (firstNeed (s .op)) (there (s .first))) _ (x .1) in
     let passed : Passed (s .op) o (s .first) (s .second) =
     record { output = p .0; first = q .0; second = q .1; first-need = y .0; second-need = y .1; sizes = rw (out-size (s .output)) (g .sizes) } in
     record {
@@ -109,5 +72,5 @@ ready ids m s h g rows b =
 -- so a block that passes the checks may be run
 pub runnable : (b : Block) → checkOf secondLimits b ≡ Ok → Runnable (varsOf (held b)) (held b)
 runnable b e i h rows w =
-    let p = passing b e in
+    let p = passing secondLimits b e in
     ready (varsOf (held b)) (p .vars) (getD (held b) i blankStmt) (λ id k. named-has (held b) i blankStmt id h k) (p .each i h) rows w

@@ -15,7 +15,7 @@ use Rattle.vars.specs.Vars.{varsOf}
 use Rattle.text.specs.declared.answer.Answer.{Answer}
 use Rattle.text.specs.declared.answer.Answer.the-variants.{Ok, Refused}
 use Rattle.checks.specs.Checks.{checkOf}
-use Rattle.checks.proofs.Passing.{never, first-ok}
+use Rattle.checks.proofs.Passing.{never, passing}
 use Rattle.machine.specs.Class.{ownClass, firstOutside}
 use Rattle.dead_store.specs.Stays.{blockOf, eliminated}
 use Rattle.run.specs.Run.{runOf}
@@ -30,7 +30,7 @@ use Rattle.alike.specs.Premises.{inOneInstruction}
 use Rattle.alike.proofs.Both.{FirstAlike, both-checked}
 use Rattle.alike.proofs.Kept.{vars-ok, held-block}
 use Rattle.first_checked.specs.Results.{Given}
-use Rattle.first_checked.proofs.First.{first, first-table}
+use Rattle.first_checked.proofs.First.{first-table}
 use Rattle.first_checked.proofs.Checked.{result-checked}
 use Rattle.first_checked.proofs.Runs.{result-runs}
 use Rattle.first_checked.proofs.Inside.{result-one-instruction}
@@ -61,9 +61,8 @@ walk-gives env i w (st ∷ rest) e =
 wider : (b : Block) → checkOf firstLimits b ≡ Ok → checkOf secondLimits b ≡ Ok
 unfolding checkOf
 wider b e =
-    let n = ltb-false 64 (b .count) (first-ok _ _ _ e .0) in
-    let f = first b e in
-    rw (le-ltb 129 (b .count) (omega (arith, n)), f .each, vars-ok (held b) (omega (arith, f .vars)), f .labels)
+    let f = passing firstLimits b e in
+    rw (le-ltb 129 (b .count) (omega (arith, f .stmts)), f .checked, vars-ok (held b) (omega (arith, f .vars)), f .labels)
 
 -- a refused answer is no `Ok`
 told : (a : Answer) (out b : Block) → treatedBy a out b .answer ≡ Ok → (a ≡ Ok) × (treatedBy a out b .block ≡ out)

@@ -40,6 +40,10 @@ cast-result-2 c = search needs
 add-result : tie.Need-add-result
 add-result c = search needs
 
+-- src/stmt.rt:36:41
+cast-result-3 : tie.Need-cast-result-3
+cast-result-3 c = search needs
+
 -- src/stmt.rt:24:1
 returns-3 : tie.Need-returns-3
 unfolding goodNode
@@ -56,4 +60,5 @@ good-node-spec =
     cast-result
     cast-result-2
     add-result
+    cast-result-3
     returns-3)

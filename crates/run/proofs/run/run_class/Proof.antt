@@ -1,6 +1,6 @@
 use mathlib.Core.Path.{sym, ap, _∙_}
 use lib.ListN.{length}
-use Rattle.pcode.specs.Block.{held}
+use Rattle.pcode.specs.Block.{held, secondLimits}
 use Rattle.vars.specs.Vars.{varsOf}
 use Rattle.checks.proofs.Passing.{passing}
 use Rattle.run.specs.Run.{runOf}
@@ -43,7 +43,7 @@ enum-told c = search needs
 named-run-requires : tie.Need-named-run-requires
 named-run-requires c κs = let a = c .before .before .before .before .before .before .before .before .before .before .args in
     let e = done _ (a .class) (held (a .block)) (length (a .trace .now)) (sym (c .before .before .before .before .before .before .before .outcome-of .ensures) ∙ c .before .before .enum-told .given .1) in
-    let p = passing (a .block) (e .0) in
+    let p = passing secondLimits (a .block) (e .0) in
     (p .stmts, p .vars, runnable (a .block) (e .0), e .1)
 
 -- src/run.rt:61:28
