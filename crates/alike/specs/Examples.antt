@@ -31,9 +31,11 @@ use Rattle.alike.specs.Premises.{reaches, inOneInstruction, readsFresh, 
 abbrev pub v1 : VarId
 v1 = record { 0 = pos 1 }
 
+-- another lasting variable
 abbrev pub v2 : VarId
 v2 = record { 0 = pos 2 }
 
+-- a temporary
 abbrev pub t : VarId
 t = record { 0 = negsuc 0 }
 
@@ -41,18 +43,23 @@ t = record { 0 = negsuc 0 }
 abbrev pub byte : VarId → Operand
 byte id = Var (record { id = id; offset = 0; size = 1 })
 
+-- a copy to the lowest byte of a variable
 abbrev pub copy : VarId → Operand → Stmt
 copy id a = stmtOf (Op.One Copy) (Out.Var (record { id = id; offset = 0; size = 1 })) a None
 
+-- a marker
 abbrev pub marker : Stmt
 marker = stmtOf Op.InstructionMarker Out.None None None
 
+-- a label
 abbrev pub label : ℕ → Stmt
 label n = stmtOf (Op.PcodeLabel (record { 0 = n })) Out.None None None
 
+-- a branch by the lowest byte of v1
 abbrev pub branch : ℕ → Stmt
 branch n = stmtOf (Op.PcodeBranch (record { 0 = n })) Out.None (byte v1) None
 
+-- a store at address 0
 abbrev pub store : Operand → Stmt
 store a = stmtOf (Op.Store 0) Out.None (Const 0 8) a
 

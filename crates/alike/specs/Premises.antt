@@ -27,6 +27,7 @@ unfoldable pub reaches : Label → List Stmt → Bool
 reaches l [] = false
 reaches l (s ∷ ss) = isLabel (s .op) l || (not (isMarker (edgeOf (s .op))) && reaches l ss)
 
+-- a branch reaches its label; other statements have none to reach
 abbrev pub lands : Act → List Stmt → Bool
 lands Act.Nothing ss = true
 lands Act.Marks ss = true
@@ -46,6 +47,7 @@ pub record Since : Type 0 where
   pub now : VarId → ℕ → Bool
   pub before : VarId → ℕ → Bool
 
+-- nothing was written
 abbrev pub noneYet : Since
 noneYet = record { now = λ id k. false; before = λ id k. false }
 
@@ -65,6 +67,7 @@ readsStale marks w (Act.Loads n) a b = stale marks w a || stale marks w b
 readsStale marks w (Act.Stores n) a b = stale marks w a || stale marks w b
 readsStale marks w Act.Computes a b = stale marks w a || stale marks w b
 
+-- after a statement's write
 abbrev pub wrote : Since → Stmt → Since
 wrote w s = record { now = λ id k. writes s id k || w .now id k; before = λ id k. not (writes s id k) && w .before id k }
 

@@ -15,6 +15,7 @@ kinSigns true false = Opposite
 kinSigns false true = Opposite
 kinSigns false false = Same
 
+-- by whether ids and offsets are the same, and by both inversions
 abbrev pub kinTests : Bool → Bool → Bool → Bool → Kin
 kinTests false o x y = Unrelated
 kinTests true false x y = Unrelated
@@ -30,6 +31,7 @@ byKin Same s o = s
 byKin Opposite s o = o
 byKin Unrelated s o = Unknown
 
+-- an expression inverted
 abbrev pub notE : Expr → Expr
 notE e = record { id = e .id; offset = e .offset; invert = not (e .invert) }
 
@@ -105,6 +107,7 @@ codeOf One = 1
 codeOf Unknown = 2
 codeOf (Sym e) = codeE e
 
+-- the expression of a code less four
 abbrev pub exprOf : ℕ → Expr
 exprOf m = record { id = record { 0 = m / 512 % 4294967296 }; offset = m / 2 % 256; invert = eqb (m % 2) 1 }
 

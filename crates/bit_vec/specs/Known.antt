@@ -20,6 +20,7 @@ abbrev pub foldBits : (Bit → Constant → Constant) → List Bit → Constant
 foldBits f [] = Known 0
 foldBits f (x ∷ xs) = f x (foldBits f xs)
 
+-- one more bit below a constant
 abbrev pub consK : Bit → Constant → Constant
 consK Zero k = twice 0 k
 consK One k = twice 1 k
@@ -34,6 +35,7 @@ constFrom = foldBits consK
 abbrev pub constOf : List Bit → Constant
 constOf xs = pick (leb (length xs) 64) (constFrom xs) Open
 
+-- a bit that is one counts, an undecided one as zero
 abbrev pub oneOf : Bit → ℕ
 oneOf Zero = 0
 oneOf One = 1
@@ -50,6 +52,7 @@ abbrev pub plus : ℕ → Constant → Constant
 plus n (Known k) = Known (n + k)
 plus n Open = Open
 
+-- one more bit to count
 abbrev pub countK : Bit → Constant → Constant
 countK Zero k = k
 countK One k = plus 1 k
@@ -60,6 +63,7 @@ countK (Sym e) k = Open
 abbrev pub countOnes : List Bit → Constant
 countOnes = foldBits countK
 
+-- one more bit above: a one ends the run of zeros
 abbrev pub leadK : Bit → Constant → Constant
 leadK Zero k = plus 1 k
 leadK One k = Known 0
@@ -74,6 +78,7 @@ zerosFirst = foldBits leadK
 abbrev pub leadingZeros : List Bit → Constant
 leadingZeros xs = zerosFirst (reverse xs)
 
+-- one more bit below: all but a zero end the run
 abbrev pub trailK : Bit → ℕ → ℕ
 trailK Zero n = suc n
 trailK One n = 0

@@ -35,6 +35,7 @@ scanned g s (x ∷ xs) (y ∷ ys) = scanned g (g s x y) xs ys
 abbrev pub each : (Bit → Bit → Bit) → Unit {0} → Bit → Bit → Bit
 each f s x y = f x y
 
+-- nothing is carried on
 abbrev pub still : Unit {0} → Bit → Bit → Unit {0}
 still s x y = s
 
@@ -77,6 +78,7 @@ lastPlace op = scanned (placeStep op) (record { carry = Zero; digit = Zero })
 abbrev pub overflowAdd : Bit → Bit → Bit → Bit
 overflowAdd x y c = orB (andB (notB (orB x y)) c) (andB (andB x y) (notB c))
 
+-- the signed carry of a sum
 abbrev pub addOverflow : List Bit → List Bit → Bit
 addOverflow xs ys = overflowAdd (lastOf Zero xs) (lastOf Zero ys) (lastPlace Add xs ys .digit)
 
@@ -84,6 +86,7 @@ addOverflow xs ys = overflowAdd (lastOf Zero xs) (lastOf Zero ys) (lastPlace Add
 abbrev pub overflowSub : Bit → Bit → Bit → Bit
 overflowSub x y c = andB (xorB x y) (xorB c x)
 
+-- the signed borrow of a difference
 abbrev pub subOverflow : List Bit → List Bit → Bit
 subOverflow xs ys = overflowSub (lastOf Zero xs) (lastOf Zero ys) (lastPlace Sub xs ys .digit)
 
@@ -107,6 +110,7 @@ eqStep One r n d = r n d
 eqStep Unknown r n d = r (suc n) Unknown
 eqStep (Sym e) r n d = r (suc n) (Sym e)
 
+-- position by position, with how many are undecided and the last of these
 abbrev pub eqFrom : List Bit → List Bit → ℕ → Bit → Bit
 eqFrom [] ys n d = eqDone n d
 eqFrom (x ∷ xs) [] n d = eqDone n d

@@ -36,6 +36,7 @@ labelOf (Rotate k) = None
 labelOf (Compare k) = None
 labelOf (BoolOf k) = None
 
+-- a use that is that label standing
 abbrev pub stands : LabelUse → Label → Bool
 stands None l = false
 stands (Stands m) l = sameLabel m l
@@ -56,6 +57,7 @@ goodUse block above None = true
 goodUse block above (Stands l) = not (hasLabel above l)
 goodUse block above (Named l) = hasLabel block l
 
+-- the same, by the operation
 abbrev pub goodLabel : List Stmt → List Stmt → Op → Bool
 goodLabel block above op = goodUse block above (labelOf op)
 

@@ -21,6 +21,7 @@ goodSize n = pick (eqb n 0) false (leb n 16)
 unfoldable pub goodNode : VarNode → Bool
 goodNode v = pick (zeroId (v .id)) false (pick (goodSize (v .size)) (leb (v .offset + v .size) 16) false)
 
+-- no operand, a constant of a good size, or a good part of a variable
 abbrev pub goodOperand : Operand → Bool
 goodOperand None = true
 goodOperand (Const v n) = goodSize n

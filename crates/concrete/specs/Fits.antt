@@ -11,6 +11,7 @@ pub record Alone (w a : ℕ) : Type 0 where
   pub most : w ≤ 128
   pub first : a < 2 ^ w
 
+-- a width, and two numbers that it holds
 pub record Both (w a b : ℕ) : Type 0 where
   pub some : 0 < w
   pub most : w ≤ 128

@@ -68,9 +68,11 @@ stepOf env below w st =
 abbrev pub stmtsOf : Made → List Stmt
 stmtsOf m = take (m .count) (m .first ∷ (m .second ∷ []))
 
+-- the walk after a step
 abbrev pub afterStep : Walk → Step → Walk
 afterStep w x = record { state = x .state; skip = x .made .skip; made = w .made ++ stmtsOf (x .made) }
 
+-- a refusal, and no block
 abbrev pub refusedWith : Refusal → Propagated
 refusedWith r = record { answer = Refused r; block = emptyBlock }
 
@@ -109,18 +111,23 @@ walkFrom env i w (st ∷ rest) =
 unfoldable pub noStore : List ℕ
 noStore = replicate 6144 0
 
+-- no row is in use
 unfoldable pub noUse : List ℕ
 noUse = replicate 48 0
 
+-- a value map without entries
 unfoldable pub noMap : List ℕ
 noMap = replicate 33536 0
 
+-- what is known at the beginning
 abbrev pub startState : State
 startState = stateOf noStore noUse noMap (record { count = 0; next = 0 })
 
+-- the walk at the beginning
 abbrev pub startWalk : Walk
 startWalk = record { state = startState; skip = Skips.None; made = [] }
 
+-- a row lent for a constant or a value
 unfoldable pub noRow : List ℕ
 noRow = replicate 128 0
 
@@ -128,9 +135,11 @@ noRow = replicate 128 0
 abbrev pub temporaryFlag : Marks → VarId → ℕ
 temporaryFlag m id = pick (lasting m id) 0 1
 
+-- the flags of some ids
 abbrev pub temporaryFlags : Marks → List VarId → List ℕ
 temporaryFlags m ids = map (temporaryFlag m) ids
 
+-- what a block's walk goes by
 abbrev pub envOf : Vars → Marks → List Stmt → Env
 envOf vars m block = record { vars = vars; temp = temporaryFlags m (take 48 (vars .ids)); block = block }
 

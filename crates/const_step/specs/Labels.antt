@@ -27,6 +27,7 @@ targetBy (Jump l) = 1 + l .0
 targetBy Exit = 0
 targetBy Hook = 0
 
+-- a statement's target
 abbrev pub targetOf : Stmt → ℕ
 targetOf s = targetBy (turnOf (s .op))
 

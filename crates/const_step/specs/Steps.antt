@@ -23,6 +23,7 @@ pub record Step : Type 0 where
   pub state : State
   pub made : Made
 
+-- the state that the lent tables and the counts make, and what the step gives
 abbrev pub steppedOf : State → Stepped → Step
 steppedOf s r = record { state = s; made = r .made }
 

@@ -24,9 +24,11 @@ names None id k = false
 names (Const v n) id k = false
 names (Var v) id k = sameId (v .id) id && inside v k
 
+-- a statement reads byte k of a variable
 abbrev pub reads : Stmt → VarId → ℕ → Bool
 reads s id k = names (s .first) id k || names (s .second) id k
 
+-- a statement writes byte k of a variable
 abbrev pub writes : Stmt → VarId → ℕ → Bool
 writes s id k = names (asOperand (s .output)) id k
 
@@ -89,6 +91,7 @@ writesSome (Out.Var v) f = someByte (λ k. inside v k && f (v .id) k)
 abbrev pub stays : (VarId → Bool) → Stmt → List Judged → Bool
 stays p s js = sideEffects (s .op) || writesSome (s .output) (λ id k. (p id && not (overwritten js id k)) || needed js id k)
 
+-- one statement more, judged by those below it
 abbrev pub judged : (VarId → Bool) → Stmt → List Judged → List Judged
 judged p s js = record { stmt = s; kept = stays p s js } ∷ js
 

@@ -15,6 +15,7 @@ use Rattle.live_tables.specs.declared.rows.Rows.{Rows}
 use Rattle.live_tables.specs.Rows.{isVar, RowsAre, Named}
 use Rattle.dead_store.specs.Stays.{readFirst, persists, judge, deadOf}
 
+-- no statement is dead
 unfoldable pub noneDead : List Bool
 noneDead = replicate 129 false
 

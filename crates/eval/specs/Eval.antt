@@ -66,6 +66,7 @@ mulByOnes h Open k other n = allUnknown h n
 abbrev pub mulKnown : {A : Type 0} → Held A → List A → List A → ℕ → List A
 mulKnown h known other n = mulByOnes h (countOnes (readAll h known)) (trailingZeros (readAll h known)) other n
 
+-- by which operands are known
 abbrev pub mulBy : {A : Type 0} → Held A → Constant → Constant → List A → List A → ℕ → List A
 mulBy h (Known x) (Known y) a b n = writeAll h (digits n (x * y))
 mulBy h (Known x) Open a b n = mulKnown h a b n
@@ -96,6 +97,7 @@ pub record Outcome (A : Type 0) : Type 0 where
   pub answer : Evaluated
   pub cells : List A
 
+-- an answer without refusal
 abbrev pub done : {A : Type 0} → List A → Outcome A
 done xs = record { answer = Done; cells = xs }
 
@@ -109,6 +111,7 @@ abbrev pub rotateBy : {A : Type 0} → Held A → RotateOp → Constant → List
 rotateBy h k (Known s) a old = pick (ltb (length a) s) (record { answer = RotateTooFar; cells = old }) (done (turnOf k s a))
 rotateBy h k Open a old = done (allUnknown h (length old))
 
+-- by the amount, if it is known
 abbrev pub rotateOf : {A : Type 0} → Held A → RotateOp → List A → List A → List A → Outcome A
 rotateOf h k a b old = rotateBy h k (constOf (readAll h b)) a old
 
@@ -128,6 +131,7 @@ compareB IntCarry xs ys = lastPlace Add xs ys .carry
 compareB IntSignedCarry xs ys = addOverflow xs ys
 compareB IntSignedBorrow xs ys = subOverflow xs ys
 
+-- on bit 0 of each operand
 abbrev pub boolB : BoolOp → Bit → Bit → Bit
 boolB BoolAnd x y = andB x y
 boolB BoolOr x y = orB x y

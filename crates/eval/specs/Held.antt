@@ -7,6 +7,7 @@ use Rattle.bit.specs.declared.Bit.{Bit}
 use Rattle.bit.specs.declared.Bit.the-variants.{Zero, Unknown}
 use Rattle.bit_vec.specs.Moves.{truth}
 
+-- one way of holding bits: how one is read and written
 pub record Held (A : Type 0) : Type 0 where
   pub read : A → Bit
   pub write : Bit → A
@@ -27,9 +28,11 @@ readAll h = map (h .read)
 abbrev pub writeAll : {A : Type 0} → Held A → List Bit → List A
 writeAll h = map (h .write)
 
+-- zero, as it is held
 abbrev pub zeroOf : {A : Type 0} → Held A → A
 zeroOf h = h .write Zero
 
+-- unknown, as it is held
 abbrev pub unknownOf : {A : Type 0} → Held A → A
 unknownOf h = h .write Unknown
 

@@ -13,6 +13,7 @@ nameB id i One = One
 nameB id i Unknown = Sym (record { id = id; offset = i % 256; invert = false })
 nameB id i (Sym e) = Sym e
 
+-- bit by bit, from offset i
 abbrev pub nameFrom : OutputExprId → ℕ → List Bit → List Bit
 nameFrom id i [] = []
 nameFrom id i (x ∷ xs) = nameB id i x ∷ nameFrom id (suc i) xs

@@ -57,6 +57,7 @@ toldBlock b = record { room = recordRoom * length (held b); text = printed (held
 abbrev pub toldRefusal : Refusal → Told
 toldRefusal why = record { room = refusalRoom; text = refusalText why }
 
+-- a block, or a refusal
 abbrev pub toldBy : Answer → Block → Told
 toldBy Ok b = toldBlock b
 toldBy (Refused why) b = toldRefusal why

@@ -7,6 +7,7 @@ use lib.Bits.{bitOr, bitXor}
 use Rattle.pcode.specs.Var.{pick}
 use Rattle.pcode.specs.declared.var.VarNode.{VarNode}
 
+-- byte k is in the set
 unfoldable pub has : ℕ → ℕ → Bool
 has set k = eqb (set / 2 ^ k % 2) 1
 
@@ -35,9 +36,11 @@ anyBelow (suc n) f = f n || anyBelow n f
 abbrev pub someByte : (ℕ → Bool) → Bool
 someByte f = anyBelow 16 f
 
+-- the set with byte k
 unfoldable pub withByte : ℕ → ℕ → ℕ
 withByte set k = bitOr set (2 ^ k)
 
+-- the set without byte k
 unfoldable pub withoutByte : ℕ → ℕ → ℕ
 withoutByte set k = bitXor (bitOr set (2 ^ k)) (2 ^ k)
 

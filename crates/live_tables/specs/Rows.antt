@@ -48,18 +48,21 @@ ends Branch = true
 ends Label = true
 ends Marker = true
 
+-- the edge is a label
 abbrev pub isLabel : Edge → Bool
 isLabel Inside = false
 isLabel Branch = false
 isLabel Label = true
 isLabel Marker = false
 
+-- the edge is a marker
 abbrev pub isMarker : Edge → Bool
 isMarker Inside = false
 isMarker Branch = false
 isMarker Label = false
 isMarker Marker = true
 
+-- the id that names no variable
 abbrev pub noId : VarId
 noId = record { 0 = pos 0 }
 
@@ -73,6 +76,7 @@ partOf None = noPart
 partOf (Const v n) = noPart
 partOf (Var v) = v
 
+-- the operand is a variable
 abbrev pub isVar : Operand → Bool
 isVar None = false
 isVar (Const v n) = false
@@ -84,9 +88,11 @@ rowIn l None = 0
 rowIn l (Const v n) = 0
 rowIn l (Var v) = rowOf l (v .id)
 
+-- the rows of a statement's output, first and second operand
 unfoldable pub rowsOf : List VarId → Stmt → Rows
 rowsOf l s = record { output = rowIn l (asOperand (s .output)); first = rowIn l (s .first); second = rowIn l (s .second) }
 
+-- rows of nothing
 abbrev pub noRow : Rows
 noRow = record { output = 0; first = 0; second = 0 }
 

@@ -16,9 +16,11 @@ use Rattle.live_tables.specs.declared.rows.Rows.{Rows}
 use Rattle.live_bytes.specs.Bytes.{has, inside, someByte, liveIn}
 use Rattle.live_tables.specs.Rows.{edgeOf, ends, partOf}
 
+-- no byte of any variable
 unfoldable pub noSets : List ℕ
 noSets = replicate 112 0
 
+-- no variable
 unfoldable pub noFlags : List Bool
 noFlags = replicate 112 false
 
@@ -40,11 +42,13 @@ pub record FlagsAre (t : List Bool) (f : ℕ → Bool) : Type 0 where
   pub long : length t ≡ 112
   pub flags : (i : ℕ) → i < 112 → getD t i false ≡ f i
 
+-- three tables of 112 rows
 pub record Long (l r a : List ℕ) : Type 0 where
   pub last : length l ≡ 112
   pub reads : length r ≡ 112
   pub across : length a ≡ 112
 
+-- what is read later, past an edge; past a marker nothing
 abbrev pub joinedSet : Bool → ℕ → ℕ → ℕ
 joinedSet marker r a = pick marker 0 (bitOr r a)
 
@@ -61,12 +65,14 @@ readsOver Branch r a = r || a
 readsOver Label r a = r || a
 readsOver Marker r a = false
 
+-- what is read across an edge
 abbrev pub acrossOver : Edge → Bool → Bool → Bool
 acrossOver Inside r a = a
 acrossOver Branch r a = r || a
 acrossOver Label r a = r || a
 acrossOver Marker r a = false
 
+-- the three tables past an edge
 pub record Bounded (e : Edge) (l r a l′ r′ a′ : List ℕ) : Type 0 where
   pub last : TableIs l′ (λ i k. not (ends e) && view l i k)
   pub reads : TableIs r′ (λ i k. readsOver e (view r i k) (view a i k))

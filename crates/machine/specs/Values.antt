@@ -44,11 +44,13 @@ pub record Held (ids : List VarId) (v : VarNode) : Type 0 where
   pub room : length ids ≤ 112
   pub inside : v .offset + v .size ≤ 16
 
+-- an operand that the state holds
 abbrev pub HeldOperand : List VarId → Operand → Type 0
 HeldOperand ids None = Unit {0}
 HeldOperand ids (Const v n) = n ≤ 16
 HeldOperand ids (Var v) = Held ids v
 
+-- an output that the state holds
 abbrev pub HeldOutput : List VarId → Output → Type 0
 HeldOutput ids Out.None = Unit {0}
 HeldOutput ids (Out.Var v) = Held ids v
@@ -59,6 +61,7 @@ pub record Ready (ids : List VarId) (rows : List (List ℕ)) (s : Stmt) : Type 0
   pub second : HeldOperand ids (s .second)
   pub applies : Applies (s .op) (8 * sizeOf (s .first)) (8 * sizeOut (s .output)) (valueIn ids rows (s .first)) (valueIn ids rows (s .second))
 
+-- a statement that may be run, its output too
 pub record ReadyOut (ids : List VarId) (rows : List (List ℕ)) (s : Stmt) : Type 0 where
   pub operands : Ready ids rows s
   pub output : HeldOutput ids (s .output)

@@ -75,6 +75,7 @@ meansTwo IntMul w a b = (a * b) % 2 ^ w
 abbrev pub shiftLeft : ℕ → ℕ → ℕ → ℕ
 shiftLeft w a b = pick (leb w b) 0 ((a * 2 ^ b) % 2 ^ w)
 
+-- right by the width or more gives zero
 abbrev pub shiftRight : ℕ → ℕ → ℕ → ℕ
 shiftRight w a b = pick (leb w b) 0 (a / 2 ^ b)
 

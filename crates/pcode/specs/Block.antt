@@ -19,6 +19,7 @@ use Rattle.pcode.specs.declared.block.Block.{Block}
 use Rattle.pcode.specs.declared.block.Marks.{Marks}
 use Rattle.pcode.specs.declared.block.Limits.{Limits}
 
+-- a statement of its parts
 abbrev pub stmtOf : Op → Output → Operand → Operand → Stmt
 stmtOf op o a b = record { op = op; output = o; first = a; second = b }
 
@@ -26,6 +27,7 @@ stmtOf op o a b = record { op = op; output = o; first = a; second = b }
 abbrev pub blankStmt : Stmt
 blankStmt = stmtOf (Trap Invalid) Output.None Operand.None Operand.None
 
+-- 129 blank statements
 unfoldable pub blankStmts : List Stmt
 blankStmts = replicate 129 blankStmt
 
@@ -33,6 +35,7 @@ blankStmts = replicate 129 blankStmt
 abbrev pub held : Block → List Stmt
 held b = take (b .count) (b .stmts)
 
+-- no statement
 abbrev pub emptyBlock : Block
 emptyBlock = record { stmts = blankStmts; count = 0 }
 
@@ -49,9 +52,11 @@ hasId (x ∷ xs) id = sameId x id || hasId xs id
 abbrev pub markIds : Marks → List VarId
 markIds m = take (m .count) (m .ids)
 
+-- no id is marked
 abbrev pub noMarks : Marks
 noMarks = record { ids = replicate 16 (record { 0 = pos 0 }); count = 0 }
 
+-- an id is marked temporary
 abbrev pub marked : Marks → VarId → Bool
 marked m id = hasId (markIds m) id
 
@@ -63,5 +68,6 @@ lasting m id = lessId (record { 0 = pos 0 }) id && not (marked m id)
 abbrev pub firstLimits : Limits
 firstLimits = record { stmts = 64; vars = 48 }
 
+-- the second pass's limits
 abbrev pub secondLimits : Limits
 secondLimits = record { stmts = 129; vars = 112 }

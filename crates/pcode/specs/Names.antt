@@ -55,6 +55,7 @@ names =
 unfoldable pub nameOf : ℕ → List ℕ
 nameOf k = getD (map bytesOf names) k []
 
+-- two byte strings are the same
 abbrev pub eqBytes : List ℕ → List ℕ → Bool
 eqBytes [] [] = true
 eqBytes [] (y ∷ ys) = false
@@ -76,6 +77,7 @@ codeOneOp IntCountOnes = 5
 codeOneOp IntCountLeadingZeroes = 6
 codeOneOp BoolNot = 7
 
+-- codes of the two-operand operations
 abbrev pub codeTwoOp : TwoOp → ℕ
 codeTwoOp IntAdd = 8
 codeTwoOp IntSub = 9
@@ -84,21 +86,25 @@ codeTwoOp IntOr = 11
 codeTwoOp IntAnd = 12
 codeTwoOp IntMul = 13
 
+-- codes of the divisions
 abbrev pub codeDivideOp : DivideOp → ℕ
 codeDivideOp IntDiv = 14
 codeDivideOp IntSignedDiv = 15
 codeDivideOp IntRem = 16
 codeDivideOp IntSignedRem = 17
 
+-- codes of the shifts
 abbrev pub codeShiftOp : ShiftOp → ℕ
 codeShiftOp IntLeft = 18
 codeShiftOp IntRight = 19
 codeShiftOp IntSignedRight = 20
 
+-- codes of the rotates
 abbrev pub codeRotateOp : RotateOp → ℕ
 codeRotateOp IntRotateLeft = 21
 codeRotateOp IntRotateRight = 22
 
+-- codes of the comparisons, carries and the borrow
 abbrev pub codeCompareOp : CompareOp → ℕ
 codeCompareOp IntEqual = 23
 codeCompareOp IntNotEqual = 24
@@ -110,11 +116,13 @@ codeCompareOp IntCarry = 29
 codeCompareOp IntSignedCarry = 30
 codeCompareOp IntSignedBorrow = 31
 
+-- codes of the boolean operations
 abbrev pub codeBoolOp : BoolOp → ℕ
 codeBoolOp BoolAnd = 32
 codeBoolOp BoolOr = 33
 codeBoolOp BoolXor = 34
 
+-- codes of the float operations
 abbrev pub codeFloatOp : FloatOp → ℕ
 codeFloatOp FloatAdd = 35
 codeFloatOp FloatSub = 36
@@ -132,6 +140,7 @@ codeFloatOp FloatNotEqual = 47
 codeFloatOp FloatLess = 48
 codeFloatOp FloatLessEqual = 49
 
+-- codes of the conversions, `MultiEqual` and `Indirect`
 abbrev pub codeOpaqueOp : OpaqueOp → ℕ
 codeOpaqueOp IntToFloat = 50
 codeOpaqueOp UintToFloat = 51
@@ -140,10 +149,12 @@ codeOpaqueOp FloatToInt = 53
 codeOpaqueOp MultiEqual = 54
 codeOpaqueOp Indirect = 55
 
+-- codes of the `Invalid` and `Exception`
 abbrev pub codeTrapOp : TrapOp → ℕ
 codeTrapOp Invalid = 56
 codeTrapOp Exception = 57
 
+-- codes of the operations with a number and a free form
 abbrev pub codeCallOp : CallOp → ℕ
 codeCallOp Arg = 66
 codeCallOp PcodeOp = 67
@@ -200,33 +211,43 @@ numberOf (BoolOf k) = NoNumber
 abbrev pub oneOps : List OneOp
 oneOps = Copy ∷ ZeroExtend ∷ SignExtend ∷ IntNot ∷ IntNegate ∷ IntCountOnes ∷ IntCountLeadingZeroes ∷ BoolNot ∷ []
 
+-- the two-operand operations in the order of their codes
 abbrev pub twoOps : List TwoOp
 twoOps = IntAdd ∷ IntSub ∷ IntXor ∷ IntOr ∷ IntAnd ∷ IntMul ∷ []
 
+-- the divisions in the order of their codes
 abbrev pub divideOps : List DivideOp
 divideOps = IntDiv ∷ IntSignedDiv ∷ IntRem ∷ IntSignedRem ∷ []
 
+-- the shifts in the order of their codes
 abbrev pub shiftOps : List ShiftOp
 shiftOps = IntLeft ∷ IntRight ∷ IntSignedRight ∷ []
 
+-- the rotates in the order of their codes
 abbrev pub rotateOps : List RotateOp
 rotateOps = IntRotateLeft ∷ IntRotateRight ∷ []
 
+-- the comparisons, carries and the borrow in the order of their codes
 abbrev pub compareOps : List CompareOp
 compareOps = IntEqual ∷ IntNotEqual ∷ IntLess ∷ IntSignedLess ∷ IntLessEqual ∷ IntSignedLessEqual ∷ IntCarry ∷ IntSignedCarry ∷ IntSignedBorrow ∷ []
 
+-- the boolean operations in the order of their codes
 abbrev pub boolOps : List BoolOp
 boolOps = BoolAnd ∷ BoolOr ∷ BoolXor ∷ []
 
+-- the float operations in the order of their codes
 abbrev pub floatOps : List FloatOp
 floatOps = FloatAdd ∷ FloatSub ∷ FloatMul ∷ FloatDiv ∷ FloatNegate ∷ FloatAbs ∷ FloatSqrt ∷ FloatCeil ∷ FloatFloor ∷ FloatRound ∷ FloatIsNan ∷ FloatEqual ∷ FloatNotEqual ∷ FloatLess ∷ FloatLessEqual ∷ []
 
+-- the conversions, `MultiEqual` and `Indirect` in the order of their codes
 abbrev pub opaqueOps : List OpaqueOp
 opaqueOps = IntToFloat ∷ UintToFloat ∷ FloatToFloat ∷ FloatToInt ∷ MultiEqual ∷ Indirect ∷ []
 
+-- the `Invalid` and `Exception` in the order of their codes
 abbrev pub trapOps : List TrapOp
 trapOps = Invalid ∷ Exception ∷ []
 
+-- the operations with a number and a free form in the order of their codes
 abbrev pub callOps : List CallOp
 callOps = Arg ∷ PcodeOp ∷ Hook ∷ HookIf ∷ TracerLoad ∷ TracerStore ∷ []
 

@@ -103,6 +103,7 @@ isMust Never = false
 isMust May = false
 isMust Must = true
 
+-- those that need no output, or may lack one, have side effects
 abbrev pub sideEffects : Op → Bool
 sideEffects op = not (isMust (outputNeed op))
 

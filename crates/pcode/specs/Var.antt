@@ -31,6 +31,7 @@ zeroId a = eqZ (a .0) (pos 0)
 abbrev pub sameId : VarId → VarId → Bool
 sameId a b = eqZ (a .0) (b .0)
 
+-- ids in order
 abbrev pub lessId : VarId → VarId → Bool
 lessId a b = ltZ (a .0) (b .0)
 

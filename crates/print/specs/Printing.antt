@@ -15,9 +15,11 @@ use Rattle.print.specs.Texts.{written, digitsText, numberText, operandTe
 use Rattle.print.specs.declared.print.Printed.{Printed}
 use Rattle.print.specs.declared.print.Printed.the-variants.{NoRoom, Written}
 
+-- what parts fields
 abbrev tab : List ℕ
 tab = 9 ∷ []
 
+-- what ends a record
 abbrev newline : List ℕ
 newline = 10 ∷ []
 
@@ -47,6 +49,7 @@ refusalText why =
 abbrev pub printOf : ℕ → List ℕ → ℕ → Printed
 printOf room text n = pick (ltb n room) NoRoom (Written (length text))
 
+-- the text at the start of the buffer, where there was room
 abbrev pub afterPrint : Printed → List ℕ → List ℕ → List ℕ
 afterPrint NoRoom text old = old
 afterPrint (Written n) text old = written old 0 text

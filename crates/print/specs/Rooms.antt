@@ -41,6 +41,7 @@ opRoom = nameRoom + 1 + (numberRoom + 1)
 abbrev pub operandsRoom : ℕ
 operandsRoom = 3 * (operandRoom + 1)
 
+-- five fields
 abbrev pub recordRoom : ℕ
 recordRoom = opRoom + operandsRoom
 

@@ -52,6 +52,7 @@ unfoldable pub varText : VarNode → List ℕ
 varText v =
     (118 ∷ []) ++ (idText (v .id .0) ++ ((58 ∷ []) ++ (digitsText 3 (v .offset) ++ ((58 ∷ []) ++ digitsText 3 (v .size)))))
 
+-- `-`, a constant or a part of a variable
 abbrev pub operandText : Operand → List ℕ
 operandText None = 45 ∷ []
 operandText (Const v n) = constText v n

@@ -26,12 +26,15 @@ use Rattle.record.specs.declared.operand.ReadOutput.the-variants as Read
 abbrev pub dash : ℕ
 dash = 45
 
+-- what parts an id, an offset and a size
 abbrev pub colon : ℕ
 colon = 58
 
+-- a constant begins with it
 abbrev pub letterC : ℕ
 letterC = 99
 
+-- a part of a variable begins with it
 abbrev pub letterV : ℕ
 letterV = 118
 
@@ -67,6 +70,7 @@ constOf s =
     Good (Const v n))
     Bad
 
+-- a part of a variable, as an operand
 abbrev pub asVar : ReadVar → ReadOperand
 asVar ReadVar.Bad = Bad
 asVar (ReadVar.Good v) = Good (Var v)
@@ -86,5 +90,6 @@ asOutput (Good None) = ReadOutput.Good Output.None
 asOutput (Good (Const v n)) = ReadOutput.Bad
 asOutput (Good (Var v)) = ReadOutput.Good (Output.Var v)
 
+-- an output is `-` or a part of a variable
 abbrev pub outputOf : List ℕ → ReadOutput
 outputOf s = asOutput (operandOf s)

@@ -22,6 +22,7 @@ use Rattle.record.specs.declared.record.ReadNumber.the-variants as ReadN
 use Rattle.record.specs.declared.record.Record.{Record}
 use Rattle.record.specs.declared.record.Record.the-variants.{Bad, Mark, Statement}
 
+-- what parts fields
 abbrev pub tab : ℕ
 tab = 9
 
@@ -35,14 +36,17 @@ numberIn code s =
     pick (takesNumber code) (onValue (decimalOf 65535 s) ReadNumber.Bad ReadNumber.Good)
     (pick (eqBytes s (bytesOf "-")) (ReadNumber.Good 0) ReadNumber.Bad)
 
+-- by whether the number is good
 abbrev pub onNumber {ℓ} : {A : Type ℓ} → ReadNumber → A → (ℕ → A) → A
 onNumber ReadNumber.Bad bad good = bad
 onNumber (ReadNumber.Good n) bad good = good n
 
+-- by whether the output is good
 abbrev pub onOutput {ℓ} : {A : Type ℓ} → ReadOutput → A → (Output → A) → A
 onOutput ReadOutput.Bad bad good = bad
 onOutput (ReadOutput.Good o) bad good = good o
 
+-- by whether the operand is good
 abbrev pub onOperand {ℓ} : {A : Type ℓ} → ReadOperand → A → (Operand → A) → A
 onOperand ReadOperand.Bad bad good = bad
 onOperand (ReadOperand.Good o) bad good = good o

@@ -38,6 +38,7 @@ pub record HeldStmt (ids : List VarId) (s : Stmt) : Type 0 where
   pub second : HeldOperand ids (s .second)
   pub output : HeldOutput ids (s .output)
 
+-- statements whose ids the table has
 abbrev pub HeldAll : List VarId → List Stmt → Type 0
 HeldAll ids [] = Unit {0}
 HeldAll ids (s ∷ ss) = HeldStmt ids s × HeldAll ids ss

@@ -27,12 +27,14 @@ abbrev pub FitsNumber : Number → Type 0
 FitsNumber NoNumber = Unit {0}
 FitsNumber (Numbered n) = n < 65536
 
+-- a statement whose values fit their types
 pub record Fits (s : Stmt) : Type 0 where
   pub number : FitsNumber (numberOf (s .op))
   pub output : FitsOperand (asOperand (s .output))
   pub first : FitsOperand (s .first)
   pub second : FitsOperand (s .second)
 
+-- the same of each
 abbrev pub FitsAll : List Stmt → Type 0
 FitsAll [] = Unit {0}
 FitsAll (s ∷ ss) = Fits s × FitsAll ss
@@ -42,6 +44,7 @@ abbrev pub FitsMark : ℤ → Type 0
 FitsMark (pos n) = (0 < n) × (n < 32768)
 FitsMark (negsuc n) = ⊥
 
+-- marks that fit
 abbrev pub FitMarks : List VarId → Type 0
 FitMarks [] = Unit {0}
 FitMarks (v ∷ vs) = FitsMark (v .0) × FitMarks vs

@@ -44,6 +44,7 @@ pub record Change : Type 0 where
   pub state : State
   pub simple : Simple
 
+-- the state that the lent tables and the counts make, and what the statement comes to
 abbrev pub changeOf : State → Simplified → Change
 changeOf s r = record { state = s; simple = r .simple }
 
@@ -57,6 +58,7 @@ simpleBy (Outcome.Constantly k) e o st = pick e (Stays st) (Copies o (Const k (o
 simpleBy Outcome.First e o st = pick e (Stays st) (Copies o (st .first))
 simpleBy Outcome.Second e o st = pick e (Stays st) (Copies o (st .second))
 
+-- by what was decided of its output
 abbrev pub settledChange : Settlement → VarNode → Stmt → Change
 settledChange x o st = record { state = x .state; simple = simpleBy (x .outcome) (sideEffects (st .op)) o st }
 
@@ -68,6 +70,7 @@ writeOf vars xa xb o st s =
     o
     st
 
+-- a statement without output stays; one with an output is evaluated
 abbrev pub plainOf : Vars → (List ℕ → List ℕ) → (List ℕ → List ℕ) → Output → Stmt → State → Change
 plainOf vars xa xb Out.None st s = record { state = s; simple = Stays st }
 plainOf vars xa xb (Out.Var o) st s = writeOf vars xa xb o st s

@@ -23,6 +23,7 @@ use Rattle.pcode.specs.declared.op.Op.the-variants.{Trap, InstructionMarker, Pc
 abbrev pub Valuation : Type 0
 Valuation = ℕ → ℕ → Bool
 
+-- plain exclusive or
 abbrev pub _xor_ : Bool → Bool → Bool
 true xor b = not b
 false xor b = b

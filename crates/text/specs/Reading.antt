@@ -18,6 +18,7 @@ use Rattle.text.specs.declared.answer.Answer.{Answer}
 use Rattle.text.specs.declared.answer.Answer.the-variants.{Ok, Refused}
 use Rattle.text.specs.declared.answer.Read.{Read}
 
+-- what ends a line
 abbrev pub newline : ℕ
 newline = 10
 
@@ -31,6 +32,7 @@ unfoldable pub linesOf : List ℕ → List (List ℕ)
 linesOf [] = []
 linesOf (b ∷ s) = pick (eqb b newline) ([] ∷ linesOf s) (inFront b (linesOf s))
 
+-- an answer with what was read
 abbrev pub readWith : Answer → Block → Marks → Read
 readWith a b m = record { answer = a; block = b; marks = m }
 
@@ -42,6 +44,7 @@ emptyRead = readWith Ok emptyBlock noMarks
 unfoldable pub refusedRead : Refusal → Read
 refusedRead why = readWith (Refused why) emptyBlock noMarks
 
+-- one mark more
 abbrev pub withMark : Marks → VarId → Marks
 withMark m id = record { ids = set (m .ids) (m .count) id; count = m .count + 1 }
 

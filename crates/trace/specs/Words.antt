@@ -33,6 +33,7 @@ wordsOf marks ids (Taken n a b rows) = accessWords 3 n a b ++ lastingWords marks
 wordsOf marks ids (Marked rows) = stateWords 4 marks ids rows
 wordsOf marks ids (Ended rows) = stateWords 5 marks ids rows
 
+-- all events' words
 unfoldable pub traceWords : Marks → List VarId → List Event → List ℕ
 traceWords marks ids [] = []
 traceWords marks ids (e ∷ es) = wordsOf marks ids e ++ traceWords marks ids es

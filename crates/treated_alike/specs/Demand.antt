@@ -35,6 +35,7 @@ pub record Accepted (m : Marks) (b : Block) : Type 0 where
 abbrev pub blockIn : List ℕ → Block
 blockIn bytes = readOf 64 bytes .block
 
+-- the marks that are read from it
 abbrev pub marksIn : List ℕ → Marks
 marksIn bytes = readOf 64 bytes .marks
 

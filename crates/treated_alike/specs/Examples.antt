@@ -68,6 +68,7 @@ blank-line = refl
 abbrev clear : Stmt
 clear = stmtOf (Op.One Copy) (Out.Var (record { id = v1; offset = 1; size = 7 })) (Const 0 7) None
 
+-- a load of a byte
 abbrev load : Stmt
 load = stmtOf (Op.Load 0) (Out.Var (record { id = v1; offset = 0; size = 1 })) (Const 4096 8) None
 

@@ -54,6 +54,7 @@ use Rattle.optimizer.specs.Both.{bothOf}
 use Rattle.treated_alike.specs.Demand.{outsideClass, bytesFrom, rowsOf}
 use Rattle.treated_alike.specs.Seen.{callsOf, bytesIn}
 
+-- the file, a record a line
 abbrev pub file : List ℕ
 file =
     bytesOf "Copy\t-\tv1:0:8\tc0:8\t-\n"
@@ -86,6 +87,7 @@ added = record { 0 = negsuc 1 }
 abbrev part : VarId → ℕ → Operand
 part id n = Var (record { id = id; offset = 0; size = n })
 
+-- the lowest n bytes of a variable, as an output
 abbrev to : VarId → ℕ → Output
 to id n = Out.Var (record { id = id; offset = 0; size = n })
 
@@ -154,6 +156,7 @@ five = 5 ∷ 0 ∷ []
 abbrev pub rows : List (List ℕ)
 rows = rowsOf (varsOf given) start
 
+-- the same for the treated block's table
 abbrev pub rows′ : List (List ℕ)
 rows′ = rowsOf (varsOf treated) start
 
@@ -166,9 +169,11 @@ fresh = (refl, refl)
 abbrev pub callsFive : List Event
 callsFive = Loaded 0 4096 0 ∷ Stored 0 8192 5 ∷ Taken 1 9 0 [] ∷ []
 
+-- and with no answer
 abbrev pub callsNone : List Event
 callsNone = Loaded 0 4096 0 ∷ Stored 0 8192 0 ∷ Taken 1 10 0 [] ∷ []
 
+-- both, computed
 pub calls : (callsOf (runOf five given rows) ≡ callsFive) × (callsOf (runOf [] given rows) ≡ callsNone)
 unfolding callsOf rowsOf bytesFrom runOf runFrom stepOf plainStep resultIn meaning answerAt loadedRows Rows.readOf Rows.writeOf Rows.numOf Rows.bytesOf varsOf varsFrom joinIds joinId hasId rowOf eqZ
 calls = (refl, refl)

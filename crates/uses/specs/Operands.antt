@@ -62,6 +62,7 @@ abbrev pub givenOf : Vars → Found → Operand → Operand
 givenOf vars Nothing a = a
 givenOf vars (At p) a = Var (nodeAt vars p)
 
+-- by its known constant, if it has one, and what the value map gives
 abbrev pub becomesBy : Vars → Constant → Found → Operand → Operand
 becomesBy vars (Known k) f a = Const k (sizeOf a)
 becomesBy vars Open f a = givenOf vars f a

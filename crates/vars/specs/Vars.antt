@@ -28,6 +28,7 @@ idsOf s = idsIn (asOperand (s .output)) ++ (idsIn (s .first) ++ idsIn (s .second
 unfoldable pub joinId : List VarId → VarId → List VarId
 joinId l id = pick (hasId l id) l (l ++ (id ∷ []))
 
+-- one id after the other
 unfoldable pub joinIds : List VarId → List VarId → List VarId
 joinIds l [] = l
 joinIds l (x ∷ xs) = joinIds (joinId l x) xs
@@ -59,6 +60,7 @@ tooMany m ss = overFrom m [] ss
 abbrev pub heldIds : Vars → List VarId
 heldIds v = take (v .count) (v .ids)
 
+-- a table without ids
 unfoldable pub noIds : List VarId
 noIds = replicate 112 (record { 0 = pos 0 })
 
@@ -70,6 +72,7 @@ tableOf l = record { ids = l ++ drop (length l) noIds; count = length l }
 abbrev pub capOf : ℕ → ℕ
 capOf m = pick (ltb m 112) m 112
 
+-- the id of a number
 abbrev pub asId : ℤ → VarId
 asId z = record { 0 = z }
 
@@ -88,6 +91,7 @@ joined cap v id =
     (pick (ltb (rowOf (heldIds v) id) (v .count)) v
     (record { ids = pick (ltb (v .count) cap) (set (v .ids) (v .count) id) (v .ids); count = v .count + 1 }))
 
+-- one id after the other
 unfoldable pub joinedAll : ℕ → Vars → List VarId → Vars
 joinedAll cap v [] = v
 joinedAll cap v (x ∷ xs) = joinedAll cap (joined cap v x) xs

@@ -34,12 +34,15 @@ use Rattle.widen.specs.declared.widen.Made.{Made}
 abbrev pub nothingM : Skip → Made
 nothingM k = record { count = 0; first = blankStmt; second = blankStmt; skip = k; why = Whys.Fine }
 
+-- one statement
 abbrev pub oneM : Stmt → Made
 oneM a = record { count = 1; first = a; second = blankStmt; skip = Skips.None; why = Whys.Fine }
 
+-- two statements
 abbrev pub twoM : Stmt → Stmt → Made
 twoM a b = record { count = 2; first = a; second = b; skip = Skips.None; why = Whys.Fine }
 
+-- a refusal
 abbrev pub refusedM : Why → Made
 refusedM w = record { count = 0; first = blankStmt; second = blankStmt; skip = Skips.None; why = w }
 
@@ -69,6 +72,7 @@ copiedAt w o None = stmtOf (OneOf ZeroExtend) (lowest o w) None None
 copiedAt w o (Const k n) = stmtOf (OneOf Copy) (lowest o w) (Const k w) None
 copiedAt w o (Var v) = stmtOf (OneOf ZeroExtend) (lowest o w) (Var v) None
 
+-- a known value, at its own size or widened
 abbrev pub copiedOf : ℕ → VarNode → Operand → Stmt
 copiedOf w o a = pick (eqb w 0) (stmtOf (OneOf Copy) (Out.Var o) a None) (copiedAt w o a)
 
@@ -87,6 +91,7 @@ keptOf w st o least =
     (stmtOf (st .op) (Out.Var (addedOf least o)) (st .first) (st .second))
     (stmtOf (OneOf ZeroExtend) (lowest o w) (Var (addedOf least o)) None)))
 
+-- a statement that stays, widened where it writes
 abbrev pub staysOf : List ℕ → Vars → Output → Stmt → VarId → Made
 staysOf store vars Out.None st least = oneM st
 staysOf store vars (Out.Var o) st least = keptOf (widenedOf store (placeOf vars o)) st o least
@@ -100,10 +105,12 @@ madeOf store vars (Stays st) least = staysOf store vars (st .output) st least
 madeOf store vars TooFar least = refusedM Whys.TooFar
 madeOf store vars BadSizes least = refusedM Whys.BadSizes
 
+-- an output whose row is in the store
 abbrev pub InRows : ℕ → Vars → Output → Type 0
 InRows codes vars Out.None = Unit {0}
 InRows codes vars (Out.Var o) = Within codes (placeOf vars o)
 
+-- the same of what a statement comes to
 abbrev pub InSimple : ℕ → Vars → Simple → Type 0
 InSimple codes vars Dropped = Unit {0}
 InSimple codes vars (Skips l) = Unit {0}
