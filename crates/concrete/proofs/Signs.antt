@@ -9,7 +9,9 @@ use lib.IntN.{ℤ, pos, negsuc, negℤ, subℕ, _+ℤ_, _-ℤ_}
 use lib.Signed.{ltZ, leZ, mag}
 use borrow.Author.Tests.{ltb-true, ltb-false, leb-true, leb-false, le-leb, lt-leb, lt-ltb, le-ltb}
 use Rattle.pcode.specs.Var.{pick}
-use Rattle.concrete.proofs.Widths.{iff, not-less}
+use Rattle.meaning.specs.Meaning.{sign, signed, inRange}
+use Rattle.concrete.specs.Fits.{Both}
+use Rattle.concrete.proofs.Widths.{iff, not-less, even-power}
 
 -- at most is not above
 pub not-above : (x y : ℤ) → not (ltZ y x) ≡ leZ x y
@@ -34,10 +36,10 @@ carries P a b ha hb = by (leb P (a + b)) refl where
       le-ltb ((a + b) % P) a (omega arith)
 
 -- an integer read off a number below P
-abbrev at : ℕ → ℕ → ℤ
+abbrev pub at : ℕ → ℕ → ℤ
 at P a = pick (leb P (2 * a)) (negsuc (P - 1 - a)) (pos a)
 
-abbrev fits : ℕ → ℤ → Bool
+abbrev pub fits : ℕ → ℤ → Bool
 fits P z = ltb (2 * mag z) P
 
 -- a difference of two numbers up to half of P fits
@@ -56,21 +58,37 @@ mag-down : (x b : ℕ) → mag (negsuc x +ℤ negℤ (pos b)) ≡ x + b
 mag-down x zero = simp (lt-ltb 0 (suc x) (omega arith)) (omega arith)
 mag-down x (suc b) = omega arith
 
+-- less by the signs of two numbers and their unsigned order; the overflow of their sum and of their difference, by their signs and the wrapped result's
+abbrev pub signsLess : Bool → Bool → Bool → Bool
+signsLess true true l = l
+signsLess true false l = true
+signsLess false true l = false
+signsLess false false l = l
+
+abbrev pub signsCarry : Bool → Bool → Bool → Bool
+signsCarry true true s = not s
+signsCarry true false s = false
+signsCarry false true s = false
+signsCarry false false s = s
+
+abbrev pub signsBorrow : Bool → Bool → Bool → Bool
+signsBorrow true true s = false
+signsBorrow true false s = not s
+signsBorrow false true s = s
+signsBorrow false false s = false
+
 module _ (P Q a b : ℕ) (even : P ≡ Q + Q) (ha : a < P) (hb : b < P) where
   neg-neg-less : ltb (P - 1 - b) (P - 1 - a) ≡ ltb a b
   neg-neg-less =
       iff (ltb (P - 1 - b) (P - 1 - a)) (ltb a b) (λ t. lt-ltb a b (let l = ltb-true (P - 1 - b) (P - 1 - a) t in omega arith))
       (λ t. lt-ltb (P - 1 - b) (P - 1 - a) (let l = ltb-true a b t in omega arith))
 
-  pub less-same : (t : Bool) → leb P (2 * a) ≡ t → leb P (2 * b) ≡ t → ltZ (at P a) (at P b) ≡ ltb a b
-  less-same true ea eb = simp (ea, eb) neg-neg-less
-  less-same false ea eb = simp (ea, eb)
-
-  pub less-neg-pos : leb P (2 * a) ≡ true → leb P (2 * b) ≡ false → ltZ (at P a) (at P b) ≡ true
-  less-neg-pos ea eb = simp (ea, eb)
-
-  pub less-pos-neg : leb P (2 * a) ≡ false → leb P (2 * b) ≡ true → ltZ (at P a) (at P b) ≡ false
-  less-pos-neg ea eb = simp (ea, eb)
+  -- less, by the two signs and the unsigned order
+  pub less-by : (x y : Bool) → leb P (2 * a) ≡ x → leb P (2 * b) ≡ y → ltZ (at P a) (at P b) ≡ signsLess x y (ltb a b)
+  less-by true true ea eb = simp (ea, eb) neg-neg-less
+  less-by true false ea eb = simp (ea, eb)
+  less-by false true ea eb = simp (ea, eb)
+  less-by false false ea eb = simp (ea, eb)
 
   -- a sum below P, one of P or more
   sum-low : a + b < P → leb P (2 * ((a + b) % P)) ≡ leb P (2 * (a + b))
@@ -79,14 +97,9 @@ module _ (P Q a b : ℕ) (even : P ≡ Q + Q) (ha : a < P) (hb : b < P) where
   sum-high : P ≤ a + b → a + b - P < P → leb P (2 * ((a + b) % P)) ≡ leb P (2 * (a + b - P))
   sum-high h g = ap (λ (n : ℕ). leb P (2 * n)) (mod-eq-sub-mod h ∙ mod-eq-of-lt g)
 
-  pub carry-pos : leb P (2 * a) ≡ false → leb P (2 * b) ≡ false → not (fits P (at P a +ℤ at P b)) ≡ leb P (2 * ((a + b) % P))
-  carry-pos ea eb =
-      let la = leb-false P (2 * a) ea in
-      let lb = leb-false P (2 * b) eb in
-      simp (ea, eb) (not-less (2 * (a + b)) P ∙ sym (sum-low (omega arith)))
-
-  pub carry-neg : leb P (2 * a) ≡ true → leb P (2 * b) ≡ true → not (fits P (at P a +ℤ at P b)) ≡ not (leb P (2 * ((a + b) % P)))
-  carry-neg ea eb =
+  -- the overflow of a sum, by the two signs and the wrapped sum's
+  pub carry-by : (x y : Bool) → leb P (2 * a) ≡ x → leb P (2 * b) ≡ y → not (fits P (at P a +ℤ at P b)) ≡ signsCarry x y (leb P (2 * ((a + b) % P)))
+  carry-by true true ea eb =
       let la = leb-true P (2 * a) ea in
       let lb = leb-true P (2 * b) eb in
       simp (ea, eb) (ap not (same ∙ sym (sum-high (omega arith) (omega arith)))) where
@@ -95,41 +108,26 @@ module _ (P Q a b : ℕ) (even : P ≡ Q + Q) (ha : a < P) (hb : b < P) where
             iff (ltb (2 * suc (P - 1 - a + (P - 1 - b))) P) (leb P (2 * (a + b - P)))
             (λ t. le-leb P (2 * (a + b - P)) (let l = ltb-true (2 * suc (P - 1 - a + (P - 1 - b))) P t in let h : suc (P - 1 - a + (P - 1 - b)) < Q = omega arith in omega arith))
             (λ t. lt-ltb (2 * suc (P - 1 - a + (P - 1 - b))) P (let l = leb-true P (2 * (a + b - P)) t in let h : Q ≤ a + b - P = omega arith in omega arith))
-
-  pub carry-pos-neg : leb P (2 * a) ≡ false → leb P (2 * b) ≡ true → not (fits P (at P a +ℤ at P b)) ≡ false
-  carry-pos-neg ea eb =
-      let la = leb-false P (2 * a) ea in
-      let lb = leb-true P (2 * b) eb in
-      simp (ea, eb) (ap not (between P a (suc (P - 1 - b)) (omega arith) (omega arith) (omega arith)))
-
-  pub carry-neg-pos : leb P (2 * a) ≡ true → leb P (2 * b) ≡ false → not (fits P (at P a +ℤ at P b)) ≡ false
-  carry-neg-pos ea eb =
+  carry-by true false ea eb =
       let la = leb-true P (2 * a) ea in
       let lb = leb-false P (2 * b) eb in
       simp (ea, eb) (ap not (between P b (suc (P - 1 - a)) (omega arith) (omega arith) (omega arith)))
-
-  pub borrow-pos : leb P (2 * a) ≡ false → leb P (2 * b) ≡ false → not (fits P (at P a -ℤ at P b)) ≡ false
-  borrow-pos ea eb =
+  carry-by false true ea eb =
+      let la = leb-false P (2 * a) ea in
+      let lb = leb-true P (2 * b) eb in
+      simp (ea, eb) (ap not (between P a (suc (P - 1 - b)) (omega arith) (omega arith) (omega arith)))
+  carry-by false false ea eb =
       let la = leb-false P (2 * a) ea in
       let lb = leb-false P (2 * b) eb in
-      simp (ea, eb) (ap not (less-fits P a b (omega arith) (omega arith)))
+      simp (ea, eb) (not-less (2 * (a + b)) P ∙ sym (sum-low (omega arith)))
 
-  pub borrow-neg : leb P (2 * a) ≡ true → leb P (2 * b) ≡ true → not (fits P (at P a -ℤ at P b)) ≡ false
-  borrow-neg ea eb =
+  -- the overflow of a difference, by the two signs and the wrapped difference's
+  pub borrow-by : (x y : Bool) → leb P (2 * a) ≡ x → leb P (2 * b) ≡ y → not (fits P (at P a -ℤ at P b)) ≡ signsBorrow x y (leb P (2 * ((a + (P - b)) % P)))
+  borrow-by true true ea eb =
       let la = leb-true P (2 * a) ea in
       let lb = leb-true P (2 * b) eb in
       simp (ea, eb) (ap not (between P (suc (P - 1 - b)) (suc (P - 1 - a)) (omega arith) (omega arith) (omega arith)))
-
-  pub borrow-pos-neg : leb P (2 * a) ≡ false → leb P (2 * b) ≡ true → not (fits P (at P a -ℤ at P b)) ≡ leb P (2 * ((a + (P - b)) % P))
-  borrow-pos-neg ea eb =
-      let la = leb-false P (2 * a) ea in
-      let lb = leb-true P (2 * b) eb in
-      let low : a + (P - b) < P = omega arith in
-      let e : a + suc (P - 1 - b) ≡ (a + (P - b)) % P = (let m = mod-eq-of-lt low in omega arith) in
-      simp (ea, eb) (not-less (2 * (a + suc (P - 1 - b))) P ∙ ap (λ (n : ℕ). leb P (2 * n)) e)
-
-  pub borrow-neg-pos : leb P (2 * a) ≡ true → leb P (2 * b) ≡ false → not (fits P (at P a -ℤ at P b)) ≡ not (leb P (2 * ((a + (P - b)) % P)))
-  borrow-neg-pos ea eb =
+  borrow-by true false ea eb =
       let la = leb-true P (2 * a) ea in
       let lb = leb-false P (2 * b) eb in
       let h : P ≤ a + (P - b) = omega arith in
@@ -143,3 +141,27 @@ module _ (P Q a b : ℕ) (even : P ≡ Q + Q) (ha : a < P) (hb : b < P) where
             iff (ltb (2 * (P - 1 - a + b)) P) (leb P (2 * (a - b)))
             (λ t. le-leb P (2 * (a - b)) (let l = ltb-true (2 * (P - 1 - a + b)) P t in let h : P - 1 - a + b < Q = omega arith in omega arith))
             (λ t. lt-ltb (2 * (P - 1 - a + b)) P (let l = leb-true P (2 * (a - b)) t in let h : Q ≤ a - b = omega arith in omega arith))
+  borrow-by false true ea eb =
+      let la = leb-false P (2 * a) ea in
+      let lb = leb-true P (2 * b) eb in
+      let low : a + (P - b) < P = omega arith in
+      let e : a + suc (P - 1 - b) ≡ (a + (P - b)) % P = (let m = mod-eq-of-lt low in omega arith) in
+      simp (ea, eb) (not-less (2 * (a + suc (P - 1 - b))) P ∙ ap (λ (n : ℕ). leb P (2 * n)) e)
+  borrow-by false false ea eb =
+      let la = leb-false P (2 * a) ea in
+      let lb = leb-false P (2 * b) eb in
+      simp (ea, eb) (ap not (less-fits P a b (omega arith) (omega arith)))
+
+-- the three at a width, as the code's tests of the signs find them
+module _ {w a b : ℕ} (h : Both w a b) (x y : Bool) (ea : sign w a ≡ x) (eb : sign w b ≡ y) where
+  pub signed-less : ltZ (signed w a) (signed w b) ≡ signsLess x y (ltb a b)
+  unfolding signed
+  signed-less = less-by (2 ^ w) (2 ^ (w - 1)) a b (even-power w (h .some)) (h .first) (h .second) x y ea eb
+
+  pub signed-carry : not (inRange w (signed w a +ℤ signed w b)) ≡ signsCarry x y (sign w ((a + b) % 2 ^ w))
+  unfolding signed
+  signed-carry = carry-by (2 ^ w) (2 ^ (w - 1)) a b (even-power w (h .some)) (h .first) (h .second) x y ea eb
+
+  pub signed-borrow : not (inRange w (signed w a -ℤ signed w b)) ≡ signsBorrow x y (sign w ((a + (2 ^ w - b)) % 2 ^ w))
+  unfolding signed
+  signed-borrow = borrow-by (2 ^ w) (2 ^ (w - 1)) a b (even-power w (h .some)) (h .first) (h .second) x y ea eb

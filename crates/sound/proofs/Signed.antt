@@ -19,7 +19,7 @@ use Rattle.bit_vec.specs.Moves.{lastOf}
 use Rattle.bit_vec.specs.declared.ripple.Ripple.the-variants.{Add, Sub}
 use Rattle.eval.specs.Eval.{signedLess}
 use Rattle.meaning.specs.Meaning.{sign, signed, inRange}
-use Rattle.concrete.proofs.Signs.{less-same, less-neg-pos, less-pos-neg, carry-pos, carry-neg, carry-pos-neg, carry-neg-pos, borrow-pos, borrow-neg, borrow-pos-neg, borrow-neg-pos}
+use Rattle.concrete.proofs.Signs.{at, signsCarry, signsBorrow, less-by, carry-by, borrow-by}
 use Rattle.sound.specs.Sound.{Valuation, _xor_, Agree, Agrees, num}
 use Rattle.sound.proofs.Ops.{xor-false, xor-true, sound-not, sound-and, sound-or, sound-xor}
 use Rattle.sound.proofs.Numbers.{num-lt, sign-last}
@@ -53,12 +53,18 @@ at-most a b c d f g = by (ltb a b) refl (leb a b) refl
         let k = leb-false a b q in
         rw p (q ∙ sym (ne-eqb c d (λ e. let z : a ≡ b = g e in omega arith)))
 
--- two's complement of a number below P
-abbrev at : ℕ → ℕ → ℤ
-at P a = pick (leb P (2 * a)) (negsuc (P - 1 - a)) (pos a)
+-- the two overflows are those by the signs
+carry-signs : (x y c : Bool) → signsCarry x y c ≡ overAdd x y c
+carry-signs true true c = refl
+carry-signs true false c = refl
+carry-signs false true c = refl
+carry-signs false false c = sym (or-false c)
 
-abbrev fits : ℕ → ℤ → Bool
-fits P z = ltb (2 * mag z) P
+borrow-signs : (x y c : Bool) → signsBorrow x y c ≡ overSub x y c
+borrow-signs true true c = refl
+borrow-signs true false c = sym (xor-true c)
+borrow-signs false true c = sym (xor-false c)
+borrow-signs false false c = refl
 
 xor-back : (c : Bool) → c xor (c xor true) ≡ true
 xor-back true = refl
@@ -92,10 +98,10 @@ module _ (P Q a b : ℕ) (even : P ≡ Q + Q) (ha : a < P) (hb : b < P) where
           p ∙ sym (lt-leb P (2 * ((a + (P - b)) % P)) (omega arith))
 
   less-law : (x y : Bool) → leb P (2 * a) ≡ x → leb P (2 * b) ≡ y → ltZ (at P a) (at P b) ≡ lessBy x y (leb P (2 * ((a + (P - b)) % P)))
-  less-law true true ea eb = less-same P Q a b even ha hb true ea eb ∙ same-sign true ea eb ∙ sym (xor-false (leb P (2 * ((a + (P - b)) % P))))
-  less-law true false ea eb = less-neg-pos P Q a b even ha hb ea eb ∙ sym (xor-back (leb P (2 * ((a + (P - b)) % P))))
-  less-law false true ea eb = less-pos-neg P Q a b even ha hb ea eb ∙ sym (xor-gone (leb P (2 * ((a + (P - b)) % P))))
-  less-law false false ea eb = less-same P Q a b even ha hb false ea eb ∙ same-sign false ea eb ∙ sym (xor-false (leb P (2 * ((a + (P - b)) % P))))
+  less-law true true ea eb = less-by P Q a b even ha hb true true ea eb ∙ same-sign true ea eb ∙ sym (xor-false (leb P (2 * ((a + (P - b)) % P))))
+  less-law true false ea eb = less-by P Q a b even ha hb true false ea eb ∙ sym (xor-back (leb P (2 * ((a + (P - b)) % P))))
+  less-law false true ea eb = less-by P Q a b even ha hb false true ea eb ∙ sym (xor-gone (leb P (2 * ((a + (P - b)) % P))))
+  less-law false false ea eb = less-by P Q a b even ha hb false false ea eb ∙ same-sign false ea eb ∙ sym (xor-false (leb P (2 * ((a + (P - b)) % P))))
 
   at-most-law : (x y : Bool) → leb P (2 * a) ≡ x → leb P (2 * b) ≡ y → leZ (at P a) (at P b) ≡ (ltZ (at P a) (at P b) || eqb a b)
   at-most-law true true ea eb = simp (ea, eb) (at-most (P - 1 - b) (P - 1 - a) a b (λ e. omega arith) (λ e. omega arith))
@@ -105,18 +111,6 @@ module _ (P Q a b : ℕ) (even : P ≡ Q + Q) (ha : a < P) (hb : b < P) where
       let k = leb-true P (2 * b) eb in
       simp (ea, eb) (sym (ne-eqb a b (λ e. omega arith)))
   at-most-law false false ea eb = simp (ea, eb) (at-most a b a b (λ e. e) (λ e. e))
-
-  carry-law : (x y : Bool) → leb P (2 * a) ≡ x → leb P (2 * b) ≡ y → not (fits P (at P a +ℤ at P b)) ≡ overAdd x y (leb P (2 * ((a + b) % P)))
-  carry-law true true ea eb = carry-neg P Q a b even ha hb ea eb
-  carry-law true false ea eb = carry-neg-pos P Q a b even ha hb ea eb
-  carry-law false true ea eb = carry-pos-neg P Q a b even ha hb ea eb
-  carry-law false false ea eb = carry-pos P Q a b even ha hb ea eb ∙ sym (or-false (leb P (2 * ((a + b) % P))))
-
-  borrow-law : (x y : Bool) → leb P (2 * a) ≡ x → leb P (2 * b) ≡ y → not (fits P (at P a -ℤ at P b)) ≡ overSub x y (leb P (2 * ((a + (P - b)) % P)))
-  borrow-law true true ea eb = borrow-neg P Q a b even ha hb ea eb
-  borrow-law true false ea eb = borrow-neg-pos P Q a b even ha hb ea eb ∙ sym (xor-true (leb P (2 * ((a + (P - b)) % P))))
-  borrow-law false true ea eb = borrow-pos-neg P Q a b even ha hb ea eb ∙ sym (xor-false (leb P (2 * ((a + (P - b)) % P))))
-  borrow-law false false ea eb = borrow-pos P Q a b even ha hb ea eb
 
 -- signed comparisons and overflows of numbers of n bits, by signs
 record Laws (n a b : ℕ) : Type 0 where
@@ -143,8 +137,8 @@ laws (v ∷ vs) ws e =
     record {
       less = less-law P (2 ^ length vs) a b q ha hb x y refl refl;
       most = at-most-law P (2 ^ length vs) a b q ha hb x y refl refl;
-      carry = carry-law P (2 ^ length vs) a b q ha hb x y refl refl;
-      borrow = borrow-law P (2 ^ length vs) a b q ha hb x y refl refl;
+      carry = carry-by P (2 ^ length vs) a b q ha hb x y refl refl ∙ carry-signs x y (leb P (2 * ((a + b) % P)));
+      borrow = borrow-by P (2 ^ length vs) a b q ha hb x y refl refl ∙ borrow-signs x y (leb P (2 * ((a + (P - b)) % P)));
     }
 
 module _ (ρ : Valuation) (xs ys : List Bit) (vs ws : List Bool) (hx : Agrees ρ xs vs) (hy : Agrees ρ ys ws) (e : length vs ≡ length ws) where
@@ -185,11 +179,11 @@ module _ (ρ : Valuation) (xs ys : List Bit) (vs ws : List Bool) (hx : Agrees ρ
       sound-and ρ (xorB x y) (xorB c x) (signX xor signY) (highSub xor signX) (sound-xor ρ x y signX signY sound-signX sound-signY)
       (sound-xor ρ c x highSub signX hc sound-signX)
 
-  less-by : Agree ρ (signedLess xs ys) (lessBy signX signY highSub)
-  less-by = sound-xor ρ (lastPlace Sub xs ys .digit) (subOverflow xs ys) highSub (overSub signX signY highSub) (sound-high ρ Sub xs ys vs ws hx hy e) over-sub
+  less-agrees : Agree ρ (signedLess xs ys) (lessBy signX signY highSub)
+  less-agrees = sound-xor ρ (lastPlace Sub xs ys .digit) (subOverflow xs ys) highSub (overSub signX signY highSub) (sound-high ρ Sub xs ys vs ws hx hy e) over-sub
 
   pub sound-signed-less : Agree ρ (signedLess xs ys) (ltZ (signed (length vs) (num vs)) (signed (length vs) (num ws)))
-  sound-signed-less = rw (laws vs ws e .less) less-by
+  sound-signed-less = rw (laws vs ws e .less) less-agrees
 
   pub sound-signed-most : Agree ρ (orB (signedLess xs ys) (eqBits xs ys)) (leZ (signed (length vs) (num vs)) (signed (length vs) (num ws)))
   sound-signed-most =
