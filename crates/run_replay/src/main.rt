@@ -8,20 +8,8 @@ mod words; // words.rt: a case's texts as input and as words
 mod cases; // cases.rt: one case, run and compared
 
 use libc::STDIN_FILENO;
-use libc::STDOUT_FILENO;
-
-// How many cases there were, and how many agreed.
-struct Tally {
-    answers: u64,
-    agree: u64,
-}
-
-// Room for the whole list.
-fn room() -> [u8; 1048576]
-    ensures { λ r. ⌜ 1048576 ≡ length r ⌝ }
-{
-    [0u8; 1048576]
-}
+use sections::tally::Tally;
+use sections::tally::room;
 
 // Room for a trace.
 fn page() -> [u64; 29900]
@@ -38,8 +26,7 @@ fn short() -> [u64; 258]
 }
 
 fn replay(list: &[u8], answers: &mut [u64], trace: &mut [u64], row: &mut [u64]) -> Tally {
-    let mut count: u64 = 0;
-    let mut agree: u64 = 0;
+    let mut tally = Tally::NONE;
     let mut block = 0;
     let mut block_end = 0;
     let mut start = 0;
@@ -53,10 +40,7 @@ fn replay(list: &[u8], answers: &mut [u64], trace: &mut [u64], row: &mut [u64]) 
         let from = s.start;
         let end = s.end;
         if end <= at {
-            return Tally {
-                answers: count,
-                agree,
-            };
+            return tally;
         }
         at = end;
         if name == b'b' {
@@ -74,7 +58,6 @@ fn replay(list: &[u8], answers: &mut [u64], trace: &mut [u64], row: &mut [u64]) 
             given_end = end;
             continue;
         }
-        count = std::num::wrapping_add_u64(count, 1);
         let same = cases::agrees(
             &list[block..block_end],
             &list[start..start_end],
@@ -84,15 +67,9 @@ fn replay(list: &[u8], answers: &mut [u64], trace: &mut [u64], row: &mut [u64]) 
             trace,
             row,
         );
-        if !same {
-            continue;
-        }
-        agree = std::num::wrapping_add_u64(agree, 1);
+        tally = tally.with(same);
     }
-    Tally {
-        answers: count,
-        agree,
-    }
+    tally
 }
 
 fn main() {
@@ -102,9 +79,5 @@ fn main() {
     let mut row = page();
     let n = io::read_full(STDIN_FILENO, &mut list);
     let tally = replay(&list[..n], &mut answers, &mut trace, &mut row);
-    io::write_all(STDOUT_FILENO, b"runs: answers ");
-    io::print_decimal(STDOUT_FILENO, tally.answers);
-    io::write_all(STDOUT_FILENO, b", agree ");
-    io::print_decimal(STDOUT_FILENO, tally.agree);
-    io::write_all(STDOUT_FILENO, b"\n");
+    tally.show(b"runs: answers ");
 }

@@ -1,6 +1,9 @@
 // The sections of a recorded list, a header line `NAME LENGTH` and so many bytes each, and its cases: an input and an answer to it.
 ghost use Prim.Native.Nat.{_+_, _≤_, _<_};
 ghost use lib.ListN.{length};
+
+pub mod tally; // tally.rt: how many answers agree
+
 use fields::decimal::Parsed;
 use fields::decimal::decimal;
 use fields::part::place;
