@@ -1,5 +1,4 @@
 // Evaluates each operation of a recorded list and prints how many answers agree with the recorded ones.
-ghost use Prim.Native.Nat.{_≤_, _<_};
 ghost use mathlib.Core.Path.{_≡_};
 ghost use lib.ListN.{length};
 

@@ -1,7 +1,4 @@
 // Replays the recorded list of blocks: treats each input and prints how many answers are, byte for byte, the recorded ones.
-ghost use Prim.Native.Nat.{_+_, _≤_, _<_};
-ghost use mathlib.Core.Path.{_≡_};
-ghost use lib.ListN.{length};
 
 mod cases; // cases.rt: one input, treated and compared
 

@@ -1,5 +1,4 @@
 // Replays the recorded runs: runs each block from its start with its answers and prints how many traces and refusals are the recorded ones.
-ghost use Prim.Native.Nat.{_<_};
 ghost use mathlib.Core.Path.{_≡_};
 ghost use lib.ListN.{length};
 

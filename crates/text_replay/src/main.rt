@@ -1,6 +1,5 @@
 // Replays the recorded list of texts: reads, checks and prints each input, and prints how many answers are, byte for byte, the recorded ones.
-ghost use Prim.Native.Nat.{_+_, _≤_, _<_};
-ghost use mathlib.Core.Path.{_≡_};
+ghost use Prim.Native.Nat.{_≤_};
 ghost use lib.ListN.{length};
 ghost use Rattle.text_replay.specs.Answers.{pageRoom};
 

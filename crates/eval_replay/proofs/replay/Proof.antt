@@ -16,63 +16,63 @@ Inv-loop list a₀ b₀ out₀ want₀ tally₀ at₀ a b out want tally at = (l
 abbrev μ-loop : tie.MeasureT-loop
 μ-loop list a₀ b₀ out₀ want₀ tally₀ at₀ a b out want tally at = length list - at
 
--- src/main.rt:23:5
+-- src/main.rt:22:5
 loop-holds : tie.Need-loop-holds Inv-loop μ-loop
 loop-holds c = search needs
 
--- src/main.rt:24:13
+-- src/main.rt:23:13
 stop-requires : tie.Need-stop-requires Inv-loop μ-loop
 stop-requires c κs = search needs
 
--- src/main.rt:25:34
+-- src/main.rt:24:34
 sub-agrees : tie.Need-sub-agrees Inv-loop μ-loop
 sub-agrees c = search needs
 
--- src/main.rt:25:34
+-- src/main.rt:24:34
 part-agrees-start : tie.Need-part-agrees-start Inv-loop μ-loop
 part-agrees-start c = search needs
 
--- src/main.rt:25:34
+-- src/main.rt:24:34
 part-agrees-end : tie.Need-part-agrees-end Inv-loop μ-loop
 part-agrees-end c = search needs
 
--- src/main.rt:25:13
+-- src/main.rt:24:13
 agrees-requires : tie.Need-agrees-requires Inv-loop μ-loop
 agrees-requires c κs = search needs
 
--- src/main.rt:26:9
+-- src/main.rt:25:9
 with-requires : tie.Need-with-requires Inv-loop μ-loop
 with-requires c κs = search needs
 
--- src/main.rt:27:14
+-- src/main.rt:26:14
 add-at : tie.Need-add-at Inv-loop μ-loop
 add-at c = search needs
 
--- src/main.rt:23:5
+-- src/main.rt:22:5
 loop-less : tie.Need-loop-less Inv-loop μ-loop
 loop-less c = search needs
 
--- src/main.rt:23:5
+-- src/main.rt:22:5
 loop-again : tie.Need-loop-again Inv-loop μ-loop
 loop-again c = search needs
 
--- src/main.rt:20:1
+-- src/main.rt:19:1
 same-length : tie.Need-same-length Inv-loop μ-loop
 same-length c = search needs
 
--- src/main.rt:20:1
+-- src/main.rt:19:1
 same-length-2 : tie.Need-same-length-2 Inv-loop μ-loop
 same-length-2 c = search needs
 
--- src/main.rt:20:1
+-- src/main.rt:19:1
 same-length-3 : tie.Need-same-length-3 Inv-loop μ-loop
 same-length-3 c = search needs
 
--- src/main.rt:20:1
+-- src/main.rt:19:1
 same-length-4 : tie.Need-same-length-4 Inv-loop μ-loop
 same-length-4 c = search needs
 
--- src/main.rt:20:1
+-- src/main.rt:19:1
 returns : tie.Need-returns Inv-loop μ-loop
 returns c = search needs
 

@@ -16,67 +16,67 @@ Inv-loop list letter limits out₀ tally₀ at₀ out tally at = length out ≡ 
 abbrev μ-loop : tie.MeasureT-loop
 μ-loop list letter limits out₀ tally₀ at₀ out tally at = length list - at
 
--- src/main.rt:21:5
+-- src/main.rt:20:5
 loop-holds : tie.Need-loop-holds Inv-loop μ-loop
 loop-holds c = search needs
 
--- src/main.rt:22:13
+-- src/main.rt:21:13
 next-case-requires : tie.Need-next-case-requires Inv-loop μ-loop
 next-case-requires c κs = search needs
 
--- src/main.rt:28:13
+-- src/main.rt:27:13
 same-length : tie.Need-same-length Inv-loop μ-loop
 same-length c = search needs
 
--- src/main.rt:28:13
+-- src/main.rt:27:13
 returns : tie.Need-returns Inv-loop μ-loop
 returns c = search needs
 
--- src/main.rt:31:34
+-- src/main.rt:30:34
 sub-agrees : tie.Need-sub-agrees Inv-loop μ-loop
 sub-agrees c = search needs
 
--- src/main.rt:31:34
+-- src/main.rt:30:34
 part-agrees-start : tie.Need-part-agrees-start Inv-loop μ-loop
 part-agrees-start c = search needs
 
--- src/main.rt:31:34
+-- src/main.rt:30:34
 part-agrees-end : tie.Need-part-agrees-end Inv-loop μ-loop
 part-agrees-end c = search needs
 
--- src/main.rt:31:51
+-- src/main.rt:30:51
 sub-agrees-2 : tie.Need-sub-agrees-2 Inv-loop μ-loop
 sub-agrees-2 c = search needs
 
--- src/main.rt:31:51
+-- src/main.rt:30:51
 part-agrees-start-2 : tie.Need-part-agrees-start-2 Inv-loop μ-loop
 part-agrees-start-2 c = search needs
 
--- src/main.rt:31:51
+-- src/main.rt:30:51
 part-agrees-end-2 : tie.Need-part-agrees-end-2 Inv-loop μ-loop
 part-agrees-end-2 c = search needs
 
--- src/main.rt:31:13
+-- src/main.rt:30:13
 agrees-requires : tie.Need-agrees-requires Inv-loop μ-loop
 agrees-requires c κs = search needs
 
--- src/main.rt:32:9
+-- src/main.rt:31:9
 with-requires : tie.Need-with-requires Inv-loop μ-loop
 with-requires c κs = search needs
 
--- src/main.rt:21:5
+-- src/main.rt:20:5
 loop-less : tie.Need-loop-less Inv-loop μ-loop
 loop-less c = search needs
 
--- src/main.rt:21:5
+-- src/main.rt:20:5
 loop-again : tie.Need-loop-again Inv-loop μ-loop
 loop-again c = search needs
 
--- src/main.rt:16:1
+-- src/main.rt:15:1
 same-length-2 : tie.Need-same-length-2 Inv-loop μ-loop
 same-length-2 c = search needs
 
--- src/main.rt:16:1
+-- src/main.rt:15:1
 returns-2 : tie.Need-returns-2 Inv-loop μ-loop
 returns-2 c = search needs
 
