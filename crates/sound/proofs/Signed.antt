@@ -7,10 +7,9 @@ use native.Mathlib.Nat.{pow-succ', mod-eq-of-lt, mod-eq-sub-mod}
 use native.Mathlib.Omega.{arith}
 use borrow.Author.Tests.{ltb-true, ltb-false, leb-true, leb-false, le-leb, lt-leb, eq-eqb, ne-eqb}
 use lib.Dec.{eqb, ltb, leb}
-use lib.IntN.{ℤ, pos, negsuc, _+ℤ_, _-ℤ_}
-use lib.Signed.{ltZ, leZ, mag}
+use lib.IntN.{_+ℤ_, _-ℤ_}
+use lib.Signed.{ltZ, leZ}
 use lib.ListN.{length}
-use Rattle.pcode.specs.Var.{pick}
 use Rattle.bit.specs.Bits.{notB, andB, orB, xorB}
 use Rattle.bit.specs.declared.Bit.{Bit}
 use Rattle.bit.specs.declared.Bit.the-variants.{Zero}
