@@ -2,3 +2,4 @@ pub mod Least
 pub mod Marked
 pub mod Lists
 pub mod Walks
+pub mod After

@@ -1,5 +1,5 @@
 -- The first pass: one step for each statement, from the first to the last.
-use Prim.Native.Nat.{ℕ, _+_, _<_, _≤_}
+use Prim.Native.Nat.{ℕ, zero, suc, _+_, _<_, _≤_}
 use mathlib.Core.Path.{_≡_}
 use mathlib.Core.Bool.{Bool, true, false}
 use mathlib.Core.List.{List, [], _∷_, _++_, map}
@@ -101,11 +101,21 @@ answerBy Whys.TooFar i next = refusalOf Whys.TooFar i
 answerBy Whys.BadSizes i next = refusalOf Whys.BadSizes i
 answerBy Whys.NoTemporary i next = refusalOf Whys.NoTemporary i
 
+-- the result of a walk that is at its end
+abbrev pub ended : Walk → List Stmt
+ended w = w .made ++ stmtsOf (endOf (w .skip))
+
 -- the rest of the block, from statement i on
 unfoldable pub walkFrom : Env → ℕ → Walk → List Stmt → Propagated
-walkFrom env i w [] = gives (w .made ++ stmtsOf (endOf (w .skip)))
+walkFrom env i w [] = gives (ended w)
 walkFrom env i w (st ∷ rest) =
     answerBy (stepOf env rest w st .made .why) i (walkFrom env (i + 1) (afterStep w (stepOf env rest w st)) rest)
+
+-- the walk after the first n statements
+unfoldable pub walkAfter : Env → Walk → List Stmt → ℕ → Walk
+walkAfter env w ss zero = w
+walkAfter env w [] (suc n) = w
+walkAfter env w (st ∷ rest) (suc n) = walkAfter env (afterStep w (stepOf env rest w st)) rest n
 
 -- nothing is known: a store of 48 rows, none in use, and a value map with room for 256 entries
 unfoldable pub noStore : List ℕ

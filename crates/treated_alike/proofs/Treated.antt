@@ -19,11 +19,9 @@ use Rattle.checks.proofs.Passing.{never, passing}
 use Rattle.machine.specs.Class.{ownClass, firstOutside}
 use Rattle.dead_store.specs.Stays.{blockOf, eliminated}
 use Rattle.run.specs.Run.{runOf}
-use Rattle.widen.specs.declared.widen.Why.{Why}
-use Rattle.widen.specs.declared.widen.Why.the-variants as Whys
-use Rattle.const_prop.specs.Pass.{Env, Walk, stepOf, afterStep, stmtsOf, gives, answerBy, walkFrom, startWalk, envOf, propagatedOf}
+use Rattle.const_prop.specs.Pass.{ended, gives, walkAfter, startWalk, envOf, propagatedOf}
 use Rattle.const_prop.specs.declared.Propagated.{Propagated}
-use Rattle.const_step.specs.Labels.{endOf}
+use Rattle.const_prop.proofs.After.{walk-ends}
 use Rattle.alike.specs.ById.{Start, StartsAs}
 use Rattle.alike.specs.Alike.{Alike}
 use Rattle.alike.specs.Premises.{inOneInstruction}
@@ -40,22 +38,6 @@ use Rattle.optimizer.specs.Second.{secondBy, secondOf}
 use Rattle.optimizer.specs.Both.{bothBy, bothOf}
 use Rattle.optimizer.specs.declared.second.Treated.{Treated}
 use Rattle.treated_alike.specs.Demand.{Accepted, Holds, RunsAlike, Fresh}
-
--- a walk that is not refused gives statements
-answer-gives : (y : Why) (i : ℕ) (p : Propagated) → answerBy y i p .answer ≡ Ok → answerBy y i p ≡ p
-answer-gives Whys.Fine i p e = refl
-answer-gives Whys.TooFar i p e = absurd (never e)
-answer-gives Whys.BadSizes i p e = absurd (never e)
-answer-gives Whys.NoTemporary i p e = absurd (never e)
-
-walk-gives : (env : Env) (i : ℕ) (w : Walk) (ss : List Stmt) → walkFrom env i w ss .answer ≡ Ok → (l : List Stmt) × (walkFrom env i w ss ≡ gives l)
-unfolding walkFrom
-walk-gives env i w [] e = (w .made ++ stmtsOf (endOf (w .skip)), refl)
-walk-gives env i w (st ∷ rest) e =
-    let x = stepOf env rest w st in
-    let q = answer-gives (x .made .why) i (walkFrom env (i + 1) (afterStep w x) rest) e in
-    let r = walk-gives env (i + 1) (afterStep w x) rest (ap (λ (z : Propagated). z .answer) (sym q) ∙ e) in
-    (r .0, q ∙ r .1)
 
 -- the second pass's limits are the wider ones
 wider : (b : Block) → checkOf firstLimits b ≡ Ok → checkOf secondLimits b ≡ Ok
@@ -91,11 +73,12 @@ treated-runs-alike m answers b a start rows rows′ h h′ fresh =
     let z = told (p .answer) (p .block) b (ap (λ (t : Treated). t .answer) (sym (y .1)) ∙ x .0) in
     let between : firstOf b m .block ≡ p .block = ap (λ (t : Treated). t .block) (y .1) ∙ z .1 in
     let w = second-told (checkOf secondLimits (firstOf b m .block)) (firstOf b m .block) m (x .1) in
-    let g = walk-gives (envOf (tableFor (held b)) m (held b)) 0 startWalk (held b) (z .0) in
-    let l = g .0 in
+    let env = envOf (tableFor (held b)) m (held b) in
+    let l = ended (walkAfter env startWalk (held b) (length (held b))) in
+    let g : p ≡ gives l = walk-ends env 0 startWalk (held b) (z .0) in
     let table = first-table 48 b (omega arith) (y .0) in
-    let given : Given b (tableFor (held b)) m l = record { checked = y .0; table = table; given = g .1 } in
-    let block-is : p .block ≡ blockOf l = ap (λ (q : Propagated). q .block) (g .1) in
+    let given : Given b (tableFor (held b)) m l = record { checked = y .0; table = table; given = g } in
+    let block-is : p .block ≡ blockOf l = ap (λ (q : Propagated). q .block) g in
     let first-is : FirstAlike m answers (held b) (held (blockOf l)) =
     subst (λ (q : Block). FirstAlike m answers (held b) (held q)) block-is (first-checked m answers b (tableFor (held b)) (y .0) (a .class) (a .constants) table (z .0)) in
     let ok₁ : checkOf secondLimits (blockOf l) ≡ Ok = result-checked given in
