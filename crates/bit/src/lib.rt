@@ -1,11 +1,13 @@
 // Symbolic bits: zero, one, unknown, or an expression; the logic on them, and the number that stands for each.
+#![tactic(auto)]
+
 ghost use Rattle.std.specs.Prelude.{◌≡◌};
 ghost use Rattle.bit.specs.Bits.{kin_of, by_kin, beside, not_e, not_b, and_b, or_b, xor_b, eq_b, code_e, code_of, bit_of};
 
 use pcode::var::OutputExprId;
 
 // Bit `offset` of what the expression `id` gave, or its inverse.
-#[derive(Drop)]
+#[derive(Clone, Copy)]
 pub struct Expr {
     pub id: OutputExprId,
     pub offset: u8,
@@ -13,14 +15,14 @@ pub struct Expr {
 }
 
 // How two expressions stand to each other.
-#[derive(Drop)]
+#[derive(Clone, Copy)]
 pub enum Kin {
     Same,
     Opposite,
     Unrelated,
 }
 
-#[derive(Drop)]
+#[derive(Clone, Copy)]
 pub enum Bit {
     Zero,
     One,

@@ -6,7 +6,7 @@ ghost use Rattle.bit_vec.specs.Known.{const_of, least, count_ones, leading_zeros
 use crate::logic::value;
 use bit::Bit;
 
-#[derive(Drop)]
+#[derive(Clone, Copy)]
 pub enum Constant {
     Known(u64),
     Open,

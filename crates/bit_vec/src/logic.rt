@@ -5,7 +5,7 @@ ghost use Rattle.bit_vec.specs.Lists.{bits, codes, logic_b, zip_bits, eq_bits, v
 
 use bit::Bit;
 
-#[derive(Drop)]
+#[derive(Clone, Copy)]
 pub enum Logic {
     And,
     Or,

@@ -6,14 +6,14 @@ ghost use Rattle.bit_vec.specs.Lists.{bits, codes, ripple_bits, ripple_carry, pl
 use crate::moves::sign;
 use bit::Bit;
 
-#[derive(Drop)]
+#[derive(Clone, Copy)]
 pub enum Ripple {
     Add,
     Sub,
 }
 
 // What a place of a sum or a difference gives: its digit, and the carry or the borrow out of it.
-#[derive(Drop)]
+#[derive(Clone, Copy)]
 pub struct Place {
     pub carry: Bit,
     pub digit: Bit,

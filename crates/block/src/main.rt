@@ -1,4 +1,6 @@
 // The block program: standard input through both passes to standard output.
+#![tactic(auto)]
+
 ghost use Rattle.std.specs.Prelude.{◌+◌, ◌≤◌, ◌<◌, ◌≡◌, length};
 ghost use Rattle.print.specs.Rooms.{block_room};
 ghost use Rattle.print.specs.Texts.{written};

@@ -9,7 +9,7 @@ use pcode::var::PcodeLabel;
 use text::answer::Answer;
 
 // What an operation has to do with a label: it stands there, or is named by a branch.
-#[derive(Drop)]
+#[derive(Clone, Copy)]
 pub enum LabelUse {
     None,
     Stands(PcodeLabel),

@@ -7,7 +7,7 @@ use crate::place::{Place, fresh_row};
 use bit_vec::moves::repeat;
 
 // How many entries the map has, and the next expression's id.
-#[derive(Drop)]
+#[derive(Clone, Copy)]
 pub struct Tally {
     pub count: usize,
     pub next: u32,

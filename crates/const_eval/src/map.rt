@@ -6,7 +6,7 @@ ghost use Rattle.const_eval.specs.Map.{place_at, entry_at, entries, words_of, In
 use crate::place::{Place, copy, holds, same};
 
 // What the map gives for a value.
-#[derive(Drop)]
+#[derive(Clone, Copy)]
 pub enum Found {
     Nothing,
     At(Place),

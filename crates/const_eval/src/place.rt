@@ -3,7 +3,7 @@ ghost use Rattle.std.specs.Prelude.{◌≡◌, ◌+◌, ◌*◌, ◌≤◌, leng
 ghost use Rattle.const_eval.specs.Known.{start_of, part_of, Within, same_codes, fresh_from, fresh_row, splice};
 
 // Bytes `offset` up to `offset + size` of a row of the store, which has 128 codes a row.
-#[derive(Drop)]
+#[derive(Clone, Copy)]
 pub struct Place {
     pub row: usize,
     pub offset: usize,

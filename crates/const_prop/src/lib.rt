@@ -1,4 +1,6 @@
 // The first pass over a block: a statement at a time, from the first to the last.
+#![tactic(auto)]
+
 ghost use Rattle.std.specs.Prelude.{◌≡◌, Bool, List, ℕ, ◌+◌, ◌-◌, ◌<◌, ◌≤◌, length, take, drop, get_or, set};
 ghost use Rattle.pcode.specs.Block.{blank_stmt};
 ghost use Rattle.vars.specs.Vars.{ids_in, ids_of};
@@ -20,7 +22,7 @@ use vars::Vars;
 use widen::widen::{Skip, Why};
 
 // `Ok` and the result, or a refusal and an empty block.
-#[derive(Drop)]
+#[derive(Clone, Copy)]
 pub struct Propagated {
     pub answer: Answer,
     pub block: Block,

@@ -16,7 +16,7 @@ use widen::turn::{Turn, turn_of};
 use widen::widen::{Made, Skip, widen};
 
 // The counts after a statement, and what it gives.
-#[derive(Drop)]
+#[derive(Clone, Copy)]
 pub struct Stepped {
     pub tally: Tally,
     pub made: Made,

@@ -1,4 +1,6 @@
 // The evaluator: what an operation gives on symbolic bits, by 01's symbolic rules.
+#![tactic(auto)]
+
 ghost use Rattle.std.specs.Prelude.{◌≡◌, true, length};
 ghost use Rattle.pcode.specs.Rules.{size_rule};
 ghost use Rattle.eval.specs.Held.{coded};
@@ -23,7 +25,7 @@ use bit::Bit;
 use bit_vec::moves::fill;
 use pcode::op::{CallOp, Op};
 
-#[derive(Drop)]
+#[derive(Clone, Copy)]
 pub enum Evaluated {
     Done,
     // An evaluated rotate has a known amount above the width in bits: 01's refusal 8.

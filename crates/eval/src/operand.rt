@@ -3,7 +3,7 @@ ghost use Rattle.std.specs.Prelude.{◌≡◌, ◌+◌, ◌*◌, ◌≤◌, min,
 ghost use Rattle.eval.specs.Operand.{bits_of};
 
 // An operand's place: none, the lowest bytes of the constant row, or bytes of a variable's row of the store.
-#[derive(Drop)]
+#[derive(Clone, Copy)]
 pub enum Slot {
     None,
     Const { bytes: u8 },

@@ -1,4 +1,6 @@
 // Evaluates each operation of a recorded list and prints how many answers agree with the recorded ones.
+#![tactic(auto)]
+
 ghost use Rattle.std.specs.Prelude.{◌≡◌, length};
 
 mod fields; // fields.rt: the fields of a record

@@ -2,7 +2,7 @@
 ghost use Rattle.std.specs.Prelude.{◌≡◌, ℕ, ◌<◌, ◌≤◌, length};
 ghost use Rattle.fields.specs.Decimals.{decimal_of, digits_of, step_of};
 
-#[derive(Drop)]
+#[derive(Clone, Copy)]
 pub enum Parsed {
     Bad,
     Value(u64),

@@ -1,4 +1,6 @@
 // The front door: bytes in, a treated block's text or one refusal's line out.
+#![tactic(auto)]
+
 ghost use Rattle.std.specs.Prelude.{◌≡◌, ℕ};
 ghost use Rattle.print.specs.Printing.{Print};
 ghost use Rattle.front.specs.Front.{limit_of, treat_of, end_of, told_by, answer_of};
@@ -11,7 +13,7 @@ use print::print::Printed;
 use text::answer::Answer;
 
 // Which passes a block goes through.
-#[derive(Drop)]
+#[derive(Clone, Copy)]
 pub enum Pass {
     First,
     Second,

@@ -1,11 +1,13 @@
 // Sets of a variable's bytes, by value.
+#![tactic(auto)]
+
 ghost use Rattle.std.specs.Prelude.{◌≡◌, Bool, true, false, not, ◌&&◌, ◌||◌, ℕ, ◌+◌, ◌<◌, ◌≤◌, ◌^◌, eqb};
 ghost use Rattle.live_bytes.specs.Bytes.{has, inside, holds, some_byte, with_byte, without_byte, end_of, live_in};
 
 use pcode::var::VarNode;
 
 // Bit k of `set` says whether byte k is in.
-#[derive(Drop)]
+#[derive(Clone, Copy)]
 pub struct LiveBytes {
     pub set: u64,
 }

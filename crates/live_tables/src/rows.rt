@@ -9,7 +9,7 @@ use pcode::op::Op;
 use pcode::var::{Operand, VarId, VarNode};
 use vars::{Vars, numbers, row_among};
 
-#[derive(Drop)]
+#[derive(Clone, Copy)]
 pub struct Rows {
     pub output: usize,
     pub first: usize,
@@ -17,7 +17,7 @@ pub struct Rows {
 }
 
 // What a statement ends: nothing, a stretch, or an instruction.
-#[derive(Drop)]
+#[derive(Clone, Copy)]
 pub enum Edge {
     Inside,
     Branch,

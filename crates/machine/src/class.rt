@@ -7,7 +7,7 @@ use pcode::block::Stmt;
 use pcode::op::Op;
 
 // Which operations a run takes besides 01's own: later requests add rotates and divisions.
-#[derive(Drop)]
+#[derive(Clone, Copy)]
 pub struct Class {
     pub rotates: bool,
     pub divisions: bool,

@@ -1,1 +1,2 @@
 // No code: what an operation of the run class means, on numbers, stands in specs/.
+#![tactic(auto)]

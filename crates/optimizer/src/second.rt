@@ -6,7 +6,7 @@ use pcode::block::{Block, Limits, Marks};
 use text::answer::Answer;
 
 // What a pass answers: `Ok` and the treated block, or a refusal and the block given.
-#[derive(Drop)]
+#[derive(Clone, Copy)]
 pub struct Treated {
     pub answer: Answer,
     pub block: Block,

@@ -6,7 +6,7 @@ use crate::op::{Op, TrapOp};
 use crate::var::{Operand, Output, VarId};
 
 // One statement: `output = op(first, second)`.
-#[derive(Drop)]
+#[derive(Clone, Copy)]
 pub struct Stmt {
     pub op: Op,
     pub output: Output,
@@ -40,7 +40,7 @@ impl Stmt {
 }
 
 // A sequence of statements: the first `count` of `stmts`, which has room for the largest result.
-#[derive(Drop)]
+#[derive(Clone, Copy)]
 pub struct Block {
     pub stmts: [Stmt; 129],
     pub count: usize,
@@ -77,7 +77,7 @@ impl Block {
 }
 
 // The ids marked temporary: the first `count` of `ids`.
-#[derive(Drop)]
+#[derive(Clone, Copy)]
 pub struct Marks {
     pub ids: [VarId; 16],
     pub count: usize,
@@ -132,7 +132,7 @@ impl Marks {
 }
 
 // How many statements and distinct variables a pass takes.
-#[derive(Drop)]
+#[derive(Clone, Copy)]
 pub struct Limits {
     pub stmts: usize,
     pub vars: usize,

@@ -1,4 +1,6 @@
 // The vocabulary of blocks: ids, operands, operations, statements, marks and refusals.
+#![tactic(auto)]
+
 pub mod var; // var.rt: the ids, parts of variables, operands and outputs
 pub mod op; // op.rt: the operations, by families, and 01's rules for each
 pub mod name; // name.rt: the operations' names in the text form

@@ -77,7 +77,7 @@ const NAMES: [u8; 1584] = *b"\x04Copy\0\0\0\0\0\0\0\0\0\0\0\0\0\0\0\0\0\
     \x0bTracerStore\0\0\0\0\0\0\0\0\0\0";
 
 // The number that stands in the second field, where there is one.
-#[derive(Drop)]
+#[derive(Clone, Copy)]
 pub enum Number {
     None,
     Some(u16),

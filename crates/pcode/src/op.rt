@@ -5,14 +5,14 @@ ghost use Rattle.pcode.specs.Rules.{meets, output_need, call_output, first_need,
 use crate::var::PcodeLabel;
 
 // No run gets past these.
-#[derive(Drop)]
+#[derive(Clone, Copy)]
 pub enum TrapOp {
     Invalid,
     Exception,
 }
 
 // Other operations without side effects that nothing is known of.
-#[derive(Drop)]
+#[derive(Clone, Copy)]
 pub enum OpaqueOp {
     IntToFloat,
     UintToFloat,
@@ -23,7 +23,7 @@ pub enum OpaqueOp {
 }
 
 // Floats stay opaque.
-#[derive(Drop)]
+#[derive(Clone, Copy)]
 pub enum FloatOp {
     FloatAdd,
     FloatSub,
@@ -43,7 +43,7 @@ pub enum FloatOp {
 }
 
 // Boolean operations of two operands.
-#[derive(Drop)]
+#[derive(Clone, Copy)]
 pub enum BoolOp {
     BoolAnd,
     BoolOr,
@@ -51,7 +51,7 @@ pub enum BoolOp {
 }
 
 // Comparisons, carries and the borrow.
-#[derive(Drop)]
+#[derive(Clone, Copy)]
 pub enum CompareOp {
     IntEqual,
     IntNotEqual,
@@ -65,14 +65,14 @@ pub enum CompareOp {
 }
 
 // The two rotates.
-#[derive(Drop)]
+#[derive(Clone, Copy)]
 pub enum RotateOp {
     IntRotateLeft,
     IntRotateRight,
 }
 
 // A value and an amount.
-#[derive(Drop)]
+#[derive(Clone, Copy)]
 pub enum ShiftOp {
     IntLeft,
     IntRight,
@@ -80,7 +80,7 @@ pub enum ShiftOp {
 }
 
 // The four divisions.
-#[derive(Drop)]
+#[derive(Clone, Copy)]
 pub enum DivideOp {
     IntDiv,
     IntSignedDiv,
@@ -89,7 +89,7 @@ pub enum DivideOp {
 }
 
 // Two operands and an output of one size.
-#[derive(Drop)]
+#[derive(Clone, Copy)]
 pub enum TwoOp {
     IntAdd,
     IntSub,
@@ -100,7 +100,7 @@ pub enum TwoOp {
 }
 
 // One operand.
-#[derive(Drop)]
+#[derive(Clone, Copy)]
 pub enum OneOp {
     Copy,
     ZeroExtend,
@@ -113,7 +113,7 @@ pub enum OneOp {
 }
 
 // Operations with a number that reach outside the block.
-#[derive(Drop)]
+#[derive(Clone, Copy)]
 pub enum CallOp {
     Arg,
     PcodeOp,
@@ -124,7 +124,7 @@ pub enum CallOp {
 }
 
 // An operation. The families have at most 16 members each, so that a `match` on one stays small.
-#[derive(Drop)]
+#[derive(Clone, Copy)]
 pub enum Op {
     Trap(TrapOp),
     InstructionMarker,
@@ -148,7 +148,7 @@ pub enum Op {
 }
 
 // Whether an operation takes an operand or an output.
-#[derive(Drop)]
+#[derive(Clone, Copy)]
 pub enum Need {
     Never,
     May,
@@ -184,7 +184,7 @@ impl CallOp {
 }
 
 // What 01 asks of the sizes of the operands (a, b) and the output (o).
-#[derive(Drop)]
+#[derive(Clone, Copy)]
 pub enum SizeRule {
     Any,
     // a = o

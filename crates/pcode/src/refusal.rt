@@ -3,7 +3,7 @@ ghost use Rattle.std.specs.Prelude.{◌≡◌, ℕ};
 ghost use Rattle.pcode.specs.Refusals.{refusal_number, refusal_place};
 
 // Each holds its place: a line from 1 for a bad line, a statement from 0 for the others.
-#[derive(Drop)]
+#[derive(Clone, Copy)]
 pub enum Refusal {
     BadLine(usize),
     TooManyStatements(usize),

@@ -3,15 +3,15 @@ ghost use Rattle.std.specs.Prelude.{◌≡◌, true, false, ℕ, ℤ, pos, negsu
 ghost use Rattle.pcode.specs.Var.{zero_id, same_id, less_id, least_id, below_id, same_label, cut, size_of, size_out, as_operand};
 
 // A variable's id: not a label's number, not an expression's.
-#[derive(Drop)]
+#[derive(Clone, Copy)]
 pub struct VarId(pub i16);
 
 // A label's number.
-#[derive(Drop)]
+#[derive(Clone, Copy)]
 pub struct PcodeLabel(pub u16);
 
 // An expression's id, given in the order in which expressions are made.
-#[derive(Drop)]
+#[derive(Clone, Copy)]
 pub struct OutputExprId(pub u32);
 
 impl VarId {
@@ -70,7 +70,7 @@ impl PcodeLabel {
 }
 
 // Bytes `offset` up to `offset + size` of the variable `id`.
-#[derive(Drop)]
+#[derive(Clone, Copy)]
 pub struct VarNode {
     pub id: VarId,
     pub offset: u8,
@@ -78,7 +78,7 @@ pub struct VarNode {
 }
 
 // What a statement reads: nothing, a constant of `size` bytes, or a part of a variable.
-#[derive(Drop)]
+#[derive(Clone, Copy)]
 pub enum Operand {
     None,
     Const(u64, u8),
@@ -86,7 +86,7 @@ pub enum Operand {
 }
 
 // What a statement writes: nothing, or a part of a variable.
-#[derive(Drop)]
+#[derive(Clone, Copy)]
 pub enum Output {
     None,
     Var(VarNode),

@@ -11,7 +11,7 @@ use pcode::op::Op;
 use pcode::refusal::Refusal;
 use pcode::var::Operand;
 
-#[derive(Drop)]
+#[derive(Clone, Copy)]
 pub enum Printed {
     NoRoom,
     Written(usize),

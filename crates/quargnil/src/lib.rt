@@ -1,4 +1,6 @@
 // The static library: the passes for callers in C or Rust, on block files in text form and numbers.
+#![tactic(auto)]
+
 ghost use Rattle.std.specs.Prelude.{◌≡◌, ℕ};
 ghost use Rattle.pcode.specs.Refusals.{refusal_number, refusal_place};
 ghost use Rattle.text.specs.Reading.{read_of};

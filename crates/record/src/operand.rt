@@ -6,25 +6,25 @@ use fields::decimal::{Parsed, decimal};
 use fields::part::{count, part};
 use pcode::var::{Operand, Output, VarId, VarNode};
 
-#[derive(Drop)]
+#[derive(Clone, Copy)]
 pub enum ReadId {
     Bad,
     Good(VarId),
 }
 
-#[derive(Drop)]
+#[derive(Clone, Copy)]
 pub enum ReadVar {
     Bad,
     Good(VarNode),
 }
 
-#[derive(Drop)]
+#[derive(Clone, Copy)]
 pub enum ReadOperand {
     Bad,
     Good(Operand),
 }
 
-#[derive(Drop)]
+#[derive(Clone, Copy)]
 pub enum ReadOutput {
     Bad,
     Good(Output),

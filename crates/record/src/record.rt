@@ -11,14 +11,14 @@ use pcode::name::takes_number;
 use pcode::op::Op;
 use pcode::var::VarId;
 
-#[derive(Drop)]
+#[derive(Clone, Copy)]
 pub enum Record {
     Bad,
     Mark(VarId),
     Statement(Stmt),
 }
 
-#[derive(Drop)]
+#[derive(Clone, Copy)]
 pub enum ReadNumber {
     Bad,
     Good(u16),

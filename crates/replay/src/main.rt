@@ -1,4 +1,5 @@
 // Replays the recorded list of blocks: treats each input and prints how many answers are, byte for byte, the recorded ones.
+#![tactic(auto)]
 
 mod cases; // cases.rt: one input, treated and compared
 

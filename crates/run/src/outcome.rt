@@ -8,7 +8,7 @@ use pcode::refusal::Refusal;
 use text::answer::Answer;
 use text::read::room;
 
-#[derive(Drop)]
+#[derive(Clone, Copy)]
 pub enum Outcome {
     Done,
     NoRoom,

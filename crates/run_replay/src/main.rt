@@ -1,4 +1,6 @@
 // Replays the recorded runs: runs each block from its start with its answers and prints how many traces and refusals are the recorded ones.
+#![tactic(auto)]
+
 ghost use Rattle.std.specs.Prelude.{◌≡◌, length};
 
 mod hex; // hex.rt: bytes in hexadecimal

@@ -1,4 +1,6 @@
 // The sections of a recorded list, a header line `NAME LENGTH` and so many bytes each, and its cases: an input and an answer to it.
+#![tactic(auto)]
+
 ghost use Rattle.std.specs.Prelude.{◌+◌, ◌<◌, ◌≤◌, length};
 
 pub mod tally; // tally.rt: how many answers agree
@@ -7,7 +9,7 @@ use fields::decimal::{Parsed, decimal};
 use fields::part::place;
 
 // The first letter of a section's name, and where its bytes stand; an empty part at the end where the header is bad.
-#[derive(Drop)]
+#[derive(Clone, Copy)]
 pub struct Section {
     pub name: u8,
     pub start: usize,
@@ -83,7 +85,7 @@ pub fn next(list: &[u8], at: usize) -> Section
 }
 
 // Where an input and an answer to it stand.
-#[derive(Drop)]
+#[derive(Clone, Copy)]
 pub struct Case {
     pub from: usize,
     pub to: usize,

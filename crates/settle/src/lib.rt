@@ -1,4 +1,6 @@
 // An output's new value, and what becomes of the statement.
+#![tactic(auto)]
+
 ghost use Rattle.std.specs.Prelude.{◌≡◌, ◌*◌, length};
 ghost use Rattle.eval.specs.Held.{coded};
 ghost use Rattle.eval.specs.Eval.{outcome_of};
@@ -17,7 +19,7 @@ use pcode::op::Op;
 use pcode::var::OutputExprId;
 
 // What becomes of a statement with an output.
-#[derive(Drop)]
+#[derive(Clone, Copy)]
 pub enum Outcome {
     // Nothing better is known.
     Stays,
@@ -114,7 +116,7 @@ fn decide<'a>(
     }
 }
 
-#[derive(Drop)]
+#[derive(Clone, Copy)]
 pub struct Settled {
     pub tally: Tally,
     pub outcome: Outcome,

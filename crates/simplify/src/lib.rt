@@ -1,4 +1,6 @@
 // A statement other than a label, without its widening.
+#![tactic(auto)]
+
 ghost use Rattle.std.specs.Prelude.{◌≡◌, ℕ, ◌+◌, ◌*◌, ◌<◌, ◌≤◌, length};
 ghost use Rattle.pcode.specs.Var.{pick};
 ghost use Rattle.pcode.specs.Rules.{side_effects};
@@ -21,7 +23,7 @@ use vars::Vars;
 use widen::simple::{Simple, exit, jump};
 use widen::turn::Turn;
 
-#[derive(Drop)]
+#[derive(Clone, Copy)]
 pub struct Simplified {
     pub tally: Tally,
     pub simple: Simple,
@@ -144,7 +146,7 @@ fn plain<'a>(
 }
 
 // Both operands' uses, and the statement with what they become.
-#[derive(Drop)]
+#[derive(Clone, Copy)]
 struct Prepared {
     tally: Tally,
     stmt: Stmt,

@@ -2,7 +2,7 @@
 use Prim.Native.Nat.{ℕ, zero, suc, ◌+◌, ◌*◌, ◌-◌, ◌/◌, ◌%◌, ◌<◌}
 use mathlib.Core.Path.{◌≡◌, refl, sym, ◌∙◌, ap, ap₂, subst}
 use mathlib.Core.Bool.{Bool, true, false}
-use mathlib.Core.List.{List, [], ◌∷◌, ◌++◌, map, map-id, map_append}
+use mathlib.Core.List.{List, [], ◌∷◌, ◌++◌, map, map-id, map-append}
 use native.Mathlib.Omega.{arith}
 use borrow.Author.Tests.{eqb-true, eq-eqb, ne_eqb, le-ltb}
 use lib.Dec.{eqb, leb}
@@ -112,11 +112,11 @@ module _ {A B : Type 0} (f : A → B) where
 
   map_up : (z : A) (k : ℕ) (xs : List A) → map f (up z k xs) ≡ up (f z) k (map f xs)
   map_up z k xs =
-      map_append f (replicate k z) (take (length xs - k) xs)
+      map-append f (replicate k z) (take (length xs - k) xs)
       ∙ ap₂ (λ (p q : List B). p ++ q) (map_replicate k z) (map_take (length xs - k) xs ∙ ap (λ (n : ℕ). take (n - k) (map f xs)) (sym (length-map xs f)))
 
   map_down : (z : A) (k : ℕ) (xs : List A) → map f (down z k xs) ≡ down (f z) k (map f xs)
-  map_down z k xs = map_append f (drop k xs) (replicate k z) ∙ ap₂ (λ (p q : List B). p ++ q) (map_drop k xs) (map_replicate k z)
+  map_down z k xs = map-append f (drop k xs) (replicate k z) ∙ ap₂ (λ (p q : List B). p ++ q) (map_drop k xs) (map_replicate k z)
 
   map_shift : (g : ℕ → List A → List A) (h : ℕ → List B → List B) (z u : A) (xs : List A) (sh : List Bit) → ((k : ℕ) (ys : List A) → map f (g k ys) ≡ h k (map f ys))
       → map f (shift_of g z u xs sh) ≡ shift_of h (f z) (f u) (map f xs) sh

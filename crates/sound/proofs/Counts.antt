@@ -3,7 +3,7 @@ use Prim.Native.Nat.{ℕ, zero, suc, ◌+◌, ◌*◌, ◌%◌, ◌^◌, ◌≤�
 use mathlib.Core.Path.{◌≡◌, refl, sym, ◌∙◌, ap, ap₂, subst}
 use mathlib.Core.Bool.{Bool, false}
 use mathlib.Core.List.{List, [], ◌∷◌, map-id, reverse, reverse-cons, reverse-reverse}
-use native.Mathlib.Nat.{mul_comm, zero-mul, mul_zero, mul-one, add-zero, zero-add, pow-succ'}
+use native.Mathlib.Nat.{mul_comm, zero-mul, mul-zero, mul-one, add-zero, zero-add, pow-succ'}
 use native.Mathlib.Omega.{arith}
 use borrow.Author.Tests.{le-leb, lt-leb}
 use lib.ListN.{length, length-reverse}
@@ -113,7 +113,7 @@ module _ (ρ : Valuation) where
   lead_cons : (x : Bit) (v : Bool) (c : Constant) (n r : ℕ) → r < 2 ^ n → Agree ρ x v → ConstIs c (zerosOf n r) → ConstIs (lead_k x c) (zerosOf (suc n) (r + 2 ^ n * (one_if v + 0)))
   unfolding zerosOf
   lead_cons Zero v c n r l h i =
-      let q : r + 2 ^ n * (0 + 0) ≡ r = ap (λ (m : ℕ). r + m) (mul_zero (2 ^ n)) ∙ add-zero r in
+      let q : r + 2 ^ n * (0 + 0) ≡ r = ap (λ (m : ℕ). r + m) (mul-zero (2 ^ n)) ∙ add-zero r in
       rw (h, q, lt-leb (2 ^ n) r l) (count_more c (zerosOf n r) i)
   lead_cons One v c n r l h i =
       let q : 2 ^ n * (1 + 0) ≡ 2 ^ n = mul-one (2 ^ n) in

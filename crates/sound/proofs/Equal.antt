@@ -1,7 +1,7 @@
 -- Equality of symbolic bits agrees with equality of the numbers.
 use Prim.Native.Nat.{ℕ, zero, suc, ◌+◌, ◌*◌}
 use mathlib.Core.Path.{◌≡◌, refl, sym, ◌∙◌}
-use mathlib.Core.Bool.{Bool, true, false, not, ◌&&◌, and_false, and_true, and_assoc}
+use mathlib.Core.Bool.{Bool, true, false, not, ◌&&◌, and-false, and-true, and_assoc}
 use mathlib.Core.List.{List, [], ◌∷◌}
 use native.Mathlib.Omega.{arith}
 use borrow.Author.Tests.{eqb-true, eqb-false, eq-eqb, ne_eqb}
@@ -40,17 +40,17 @@ module _ (ρ : Valuation) where
 
   step : (e : Bit) (r : ℕ → Bit → Bit) (n : ℕ) (d : Bit) (t s q : Bool) → Agree ρ e s → SoFar ρ n d t
       → ((m : ℕ) (x : Bit) (u : Bool) → SoFar ρ m x u → Agree ρ (r m x) (u && q)) → Agree ρ (eq_step e r n d) (t && (s && q))
-  step Zero r n d t s q h k f = rw h (and_false t)
+  step Zero r n d t s q h k f = rw h (and-false t)
   step One r n d t s q h k f = rw h (f n d t k)
   step Unknown r n d t s q h k f = rw (← and_assoc t s q) (f (suc n) Unknown (t && s) (more n d Unknown t s k h))
   step (Sym x) r n d t s q h k f = rw (← and_assoc t s q) (f (suc n) (Sym x) (t && s) (more n d (Sym x) t s k h))
 
   sound_from : (xs ys : List Bit) (vs ws : List Bool) → Agrees ρ xs vs → Agrees ρ ys ws → (n : ℕ) (d : Bit) (t : Bool) → SoFar ρ n d t
       → Agree ρ (eq_from xs ys n d) (t && same_v vs ws)
-  sound_from [] ys [] ws hx hy n d t h = rw (and_true t) (done n d t h)
+  sound_from [] ys [] ws hx hy n d t h = rw (and-true t) (done n d t h)
   sound_from [] ys (v ∷ vs) ws hx hy n d t h = absurd hx
   sound_from (x ∷ xs) ys [] ws hx hy n d t h = absurd hx
-  sound_from (x ∷ xs) [] (v ∷ vs) [] hx hy n d t h = rw (and_true t) (done n d t h)
+  sound_from (x ∷ xs) [] (v ∷ vs) [] hx hy n d t h = rw (and-true t) (done n d t h)
   sound_from (x ∷ xs) [] (v ∷ vs) (w ∷ ws) hx hy n d t h = absurd hy
   sound_from (x ∷ xs) (y ∷ ys) (v ∷ vs) [] hx hy n d t h = absurd hy
   sound_from (x ∷ xs) (y ∷ ys) (v ∷ vs) (w ∷ ws) hx hy n d t h =

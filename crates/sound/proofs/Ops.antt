@@ -1,6 +1,6 @@
 -- The operations on bits keep agreement.
 use mathlib.Core.Path.{◌≡◌, refl, ◌∙◌, ap}
-use mathlib.Core.Bool.{Bool, true, false, not, ◌&&◌, ◌||◌, and_self, or_self, and_false, and_true, or_true, or_false, and-not_self, or-not_self, not_not}
+use mathlib.Core.Bool.{Bool, true, false, not, ◌&&◌, ◌||◌, and_self, or_self, and-false, and-true, or-true, or-false, and-not_self, or-not_self, not-not}
 use borrow.Author.Tests.{eqb-true}
 use lib.Dec.{eqb}
 use Rattle.bit.specs.Bits.{kin_signs, kin_tests, kin_of, by_kin, beside, not_e, not_b, and_b, or_b, xor_b, eq_b}
@@ -80,23 +80,23 @@ module _ (ρ : Valuation) where
   unfolding and_b
   sound_and Zero y v w h k = rw h
   sound_and One y v w h k = rw h k
-  sound_and Unknown Zero v w h k = rw k (and_false v)
+  sound_and Unknown Zero v w h k = rw k (and-false v)
   sound_and Unknown One v w h k = tt
   sound_and Unknown Unknown v w h k = tt
   sound_and Unknown (Sym b) v w h k = tt
   sound_and (Sym a) y v w h k =
-      by_beside y a Zero (Sym a) (Sym a) Zero w (v && w) k (λ q. rw q (and_false v)) (λ q. rw q (and_true v ∙ h)) (λ q. rw (h, q) (and_self (value_e ρ a))) (λ q. rw (h, q) (and-not_self (value_e ρ a)))
+      by_beside y a Zero (Sym a) (Sym a) Zero w (v && w) k (λ q. rw q (and-false v)) (λ q. rw q (and-true v ∙ h)) (λ q. rw (h, q) (and_self (value_e ρ a))) (λ q. rw (h, q) (and-not_self (value_e ρ a)))
 
   pub sound_or : (x y : Bit) (v w : Bool) → Agree ρ x v → Agree ρ y w → Agree ρ (or_b x y) (v || w)
   unfolding or_b
   sound_or Zero y v w h k = rw h k
   sound_or One y v w h k = rw h
   sound_or Unknown Zero v w h k = tt
-  sound_or Unknown One v w h k = rw k (or_true v)
+  sound_or Unknown One v w h k = rw k (or-true v)
   sound_or Unknown Unknown v w h k = tt
   sound_or Unknown (Sym b) v w h k = tt
   sound_or (Sym a) y v w h k =
-      by_beside y a (Sym a) One (Sym a) One w (v || w) k (λ q. rw q (or_false v ∙ h)) (λ q. rw q (or_true v)) (λ q. rw (h, q) (or_self (value_e ρ a))) (λ q. rw (h, q) (or-not_self (value_e ρ a)))
+      by_beside y a (Sym a) One (Sym a) One w (v || w) k (λ q. rw q (or-false v ∙ h)) (λ q. rw q (or-true v)) (λ q. rw (h, q) (or_self (value_e ρ a))) (λ q. rw (h, q) (or-not_self (value_e ρ a)))
 
   pub sound_xor : (x y : Bit) (v w : Bool) → Agree ρ x v → Agree ρ y w → Agree ρ (xor_b x y) (v xor w)
   unfolding xor_b
@@ -110,8 +110,8 @@ module _ (ρ : Valuation) where
   pub sound_eq : (x y : Bit) (v w : Bool) → Agree ρ x v → Agree ρ y w → Agree ρ (eq_b x y) (not (v xor w))
   unfolding eq_b
   sound_eq Zero y v w h k = rw h (sound_not y w k)
-  sound_eq One y v w h k = rw (h, not_not w) k
+  sound_eq One y v w h k = rw (h, not-not w) k
   sound_eq Unknown y v w h k = tt
   sound_eq (Sym a) y v w h k =
       by_beside y a (Sym (not_e a)) (Sym a) One Zero w (not (v xor w)) k (λ q. rw q (ap not (xor_false v ∙ h) ∙ not_xor a.invert (ρ a.id.0 a.offset)))
-      (λ q. rw q (ap not (xor_true v) ∙ not_not v ∙ h)) (λ q. rw (h, q) (ap not (xor_self (value_e ρ a)))) (λ q. rw (h, q) (ap not (xor_not (value_e ρ a))))
+      (λ q. rw q (ap not (xor_true v) ∙ not-not v ∙ h)) (λ q. rw (h, q) (ap not (xor_self (value_e ρ a)))) (λ q. rw (h, q) (ap not (xor_not (value_e ρ a))))

@@ -2,8 +2,8 @@
 use Prim.Native.Nat.{ℕ, zero, suc, ◌+◌, ◌*◌, ◌-◌, ◌/◌, ◌%◌, ◌^◌, ◌≤◌, ◌<◌}
 use mathlib.Core.Path.{◌≡◌, refl, sym, ◌∙◌, ap, ap₂}
 use mathlib.Core.Bool.{Bool, true, false, not}
-use mathlib.Core.List.{List, [], ◌∷◌, ◌++◌, map, append_assoc, append-nil, map_append}
-use native.Mathlib.Nat.{mod-le, mul-div_cancel, mul-mod_left, mul_zero, mul_comm, add-zero, zero-add}
+use mathlib.Core.List.{List, [], ◌∷◌, ◌++◌, map, append_assoc, append-nil, map-append}
+use native.Mathlib.Nat.{mod-le, mul-div_cancel, mul-mod_left, mul-zero, mul_comm, add-zero, zero-add}
 use native.Mathlib.Omega.{arith}
 use borrow.Author.Tests.{leb-true, leb-false}
 use lib.Dec.{leb}
@@ -183,7 +183,7 @@ num_up k vs h =
 num_down : (k : ℕ) (vs : List Bool) → num (down false k vs) ≡ num vs / 2 ^ k
 num_down k vs =
     num_append (drop k vs) (replicate k false) ∙ ap (λ (n : ℕ). num (drop k vs) + 2 ^ length (drop k vs) * n) (num_false k)
-    ∙ ap (λ (n : ℕ). num (drop k vs) + n) (mul_zero (2 ^ length (drop k vs))) ∙ add-zero (num (drop k vs)) ∙ num_drop k vs
+    ∙ ap (λ (n : ℕ). num (drop k vs) + n) (mul-zero (2 ^ length (drop k vs))) ∙ add-zero (num (drop k vs)) ∙ num_drop k vs
 
 num_left : (k : ℕ) (vs : List Bool) → shift_left (length vs) (num vs) k ≡ num (shift_v (up false) false k vs)
 num_left k vs = go (leb (length vs) k) refl
@@ -220,7 +220,7 @@ not_shift k vs =
   where
     go : (n : ℕ) (t : Bool) → pick t (replicate n true) (down true k vs) ≡ map not (pick t (replicate n false) (down false k (map not vs)))
     go n true = sym (not_false n)
-    go n false = sym (map_append not (drop k (map not vs)) (replicate k false) ∙ ap₂ (λ (a b : List Bool). a ++ b) (not_drop k vs) (not_false k))
+    go n false = sym (map-append not (drop k (map not vs)) (replicate k false) ∙ ap₂ (λ (a b : List Bool). a ++ b) (not_drop k vs) (not_false k))
 
 num_signed : (k : ℕ) (vs : List Bool) → 2 ^ length vs - 1 - shift_right (length vs) (2 ^ length vs - 1 - num vs) k ≡ num (shift_v (down true) true k vs)
 num_signed k vs =

@@ -1,7 +1,7 @@
 -- Signed comparisons and overflows of symbolic bits agree with those of two's complement.
 use Prim.Native.Nat.{ℕ, suc, ◌+◌, ◌*◌, ◌-◌, ◌%◌, ◌^◌, ◌≤◌, ◌<◌}
 use mathlib.Core.Path.{◌≡◌, refl, sym, ◌∙◌}
-use mathlib.Core.Bool.{Bool, true, false, not, ◌&&◌, ◌||◌, or_false}
+use mathlib.Core.Bool.{Bool, true, false, not, ◌&&◌, ◌||◌, or-false}
 use mathlib.Core.List.{List, [], ◌∷◌}
 use native.Mathlib.Nat.{pow-succ', mod-eq_of_lt, mod-eq-sub-mod}
 use native.Mathlib.Omega.{arith}
@@ -57,7 +57,7 @@ carry_signs : (x y c : Bool) → signs_carry x y c ≡ over_add x y c
 carry_signs true true c = refl
 carry_signs true false c = refl
 carry_signs false true c = refl
-carry_signs false false c = sym (or_false c)
+carry_signs false false c = sym (or-false c)
 
 borrow_signs : (x y c : Bool) → signs_borrow x y c ≡ over_sub x y c
 borrow_signs true true c = refl

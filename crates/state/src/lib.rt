@@ -1,4 +1,6 @@
 // The machine state: 112 rows of 16 bytes, by value. A part of a row is read as a number and written from one.
+#![tactic(auto)]
+
 ghost use Rattle.std.specs.Prelude.{◌≡◌, List, [], ℕ, ◌+◌, ◌%◌, ◌<◌, ◌≤◌, get_or, set, take, drop, replicate};
 ghost use Rattle.std.proofs.Math.Seq.{paste};
 ghost use Rattle.wide.specs.Value.{value_of};

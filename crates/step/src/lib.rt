@@ -1,4 +1,6 @@
 // One statement of a run: what it does, the state after it, and where the run goes on.
+#![tactic(auto)]
+
 ghost use Rattle.std.specs.Prelude.{◌≡◌, ◌+◌, ◌*◌, ◌<◌, ◌≤◌, ◌%◌, get_or};
 ghost use Rattle.wide.specs.Value.{value_of};
 ghost use Rattle.vars.specs.Vars.{held_ids};
@@ -14,7 +16,7 @@ use vars::Vars;
 use wide::Wide;
 
 // What an operation does in a run.
-#[derive(Drop)]
+#[derive(Clone, Copy)]
 pub enum Act {
     Nothing,
     Marks,
@@ -26,7 +28,7 @@ pub enum Act {
 }
 
 // Where a run goes on.
-#[derive(Drop)]
+#[derive(Clone, Copy)]
 pub enum Flow {
     Next,
     Jump(PcodeLabel),

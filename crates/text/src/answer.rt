@@ -7,14 +7,14 @@ use pcode::refusal::Refusal;
 use pcode::var::VarId;
 use record::record::Record;
 
-#[derive(Drop)]
+#[derive(Clone, Copy)]
 pub enum Answer {
     Ok,
     Refused(Refusal),
 }
 
 // What was read so far; a refusal's block and marks are empty.
-#[derive(Drop)]
+#[derive(Clone, Copy)]
 pub struct Read {
     pub answer: Answer,
     pub block: Block,

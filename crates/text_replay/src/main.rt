@@ -1,4 +1,6 @@
 // Replays the recorded list of texts: reads, checks and prints each input, and prints how many answers are, byte for byte, the recorded ones.
+#![tactic(auto)]
+
 ghost use Rattle.std.specs.Prelude.{◌≤◌, length};
 ghost use Rattle.text_replay.specs.Answers.{page_room};
 

@@ -1,4 +1,6 @@
 // Recording a run's events as words at a place of a lent buffer; each function answers the place after them.
+#![tactic(auto)]
+
 ghost use Rattle.std.specs.Prelude.{[], ◌∷◌, ◌+◌, ◌*◌, ◌<◌, ◌≤◌, length, take};
 ghost use Rattle.pcode.specs.Var.{pick};
 ghost use Rattle.wide.specs.Value.{value_of};

@@ -1,4 +1,6 @@
 // An operand's use, and what it becomes.
+#![tactic(auto)]
+
 ghost use Rattle.std.specs.Prelude.{◌≡◌, ◌++◌, ℕ, ◌+◌, ◌*◌, ◌<◌, ◌≤◌, length, drop};
 ghost use Rattle.bit_vec.specs.Lists.{bits, codes};
 ghost use Rattle.bit_vec.specs.Moves.{digits};
@@ -18,7 +20,7 @@ use pcode::var::{Operand, VarNode};
 use vars::Vars;
 
 // The counts after an operand's use, where its bits stand, and what it becomes.
-#[derive(Drop)]
+#[derive(Clone, Copy)]
 pub struct Use {
     pub tally: Tally,
     pub slot: Slot,

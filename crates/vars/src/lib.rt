@@ -1,4 +1,6 @@
 // The table of a block's variables, in the order of first naming: output, first operand, second operand.
+#![tactic(auto)]
+
 ghost use Rattle.std.specs.Prelude.{◌≡◌, Bool, true, false, ℕ, ◌+◌, ◌<◌, ◌≤◌, length, take, drop, get_or, set};
 ghost use Rattle.vars.specs.Vars.{ids_in, ids_of, row_of, held_ids, as_ids, under, no_ids, table_of, cap_of, joined, joined_all, named_of};
 
@@ -6,7 +8,7 @@ use pcode::block::Stmt;
 use pcode::var::{Operand, VarId};
 
 // The first `count` of `ids` are held; the others are 0, which names no variable.
-#[derive(Drop)]
+#[derive(Clone, Copy)]
 pub struct Vars {
     pub ids: [VarId; 112],
     pub count: usize,
@@ -139,7 +141,7 @@ fn join_stmt(raw: &mut [i16; 112], n: usize, cap: usize, s: Stmt) -> usize
 }
 
 // The variables of the statements before `place`, the first statement that names one beyond the limit.
-#[derive(Drop)]
+#[derive(Clone, Copy)]
 pub struct Naming {
     pub vars: Vars,
     pub place: usize,

@@ -1,9 +1,11 @@
 // Numbers of up to 128 bits as two 64-bit halves, with wrapping operations and carries between them.
+#![tactic(auto)]
+
 ghost use Rattle.std.specs.Prelude.{◌≡◌, ℕ, ◌+◌, ◌-◌, ◌*◌, ◌/◌, ◌%◌, ◌^◌, ◌<◌, ◌≤◌, Bool, true, false, ◌&&◌, ◌==◌, bit_and, bit_or, bit_xor, nat_lt};
 ghost use Rattle.wide.specs.Value.{value_of};
 
 // The low half first.
-#[derive(Drop)]
+#[derive(Clone, Copy)]
 pub struct Wide {
     pub lo: u64,
     pub hi: u64,

@@ -7,7 +7,7 @@ use pcode::block::Stmt;
 use pcode::var::{Operand, PcodeLabel, VarNode};
 
 // What a statement comes to.
-#[derive(Drop)]
+#[derive(Clone, Copy)]
 pub enum Simple {
     Dropped,
     // A branch that is always taken.

@@ -5,7 +5,7 @@ ghost use Rattle.widen.specs.Turn.{turn_of, turn_call};
 use pcode::op::{CallOp, Op};
 use pcode::var::PcodeLabel;
 
-#[derive(Drop)]
+#[derive(Clone, Copy)]
 pub enum Turn {
     Plain,
     Marker,

@@ -13,14 +13,14 @@ use uses::place;
 use vars::Vars;
 
 // What a skip is looking for.
-#[derive(Drop)]
+#[derive(Clone, Copy)]
 pub enum Skip {
     None,
     To(PcodeLabel),
 }
 
 // Why a statement is refused: 8, 5 or 9.
-#[derive(Drop)]
+#[derive(Clone, Copy)]
 pub enum Why {
     Fine,
     TooFar,
@@ -29,7 +29,7 @@ pub enum Why {
 }
 
 // What a statement gives: the first `count` of two statements, blank where there is none, a skip that begins, or a refusal.
-#[derive(Drop)]
+#[derive(Clone, Copy)]
 pub struct Made {
     pub count: usize,
     pub first: Stmt,

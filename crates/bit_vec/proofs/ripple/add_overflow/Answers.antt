@@ -1,0 +1,14 @@
+use Rattle.bit_vec.proofs.Moved.{sign_bit}
+use mathlib.Core.Path.{◌≡◌, ◌∙◌, ap}
+use Rattle.bit.specs.Bits.{bit_of}
+use Rattle.bit.specs.declared.Bit.TheVariants.{Zero}
+use Rattle.bit_vec.specs.Lists.{bits}
+use Rattle.bit_vec.specs.Moves.{last_of}
+use borrow.Author.Rules.{rules}
+use Rattle.bit_vec.proofs.ripple.add_overflow.Goals as goal
+
+pub returns : goal.returns
+returns c =
+    let x : c.decode-x.result ≡ last_of Zero (bits c.args.a.now) = c.decode-x.ensures ∙ ap bit_of c.sign.ensures ∙ sign_bit c.args.a.now in
+    let y : c.decode-y.result ≡ last_of Zero (bits c.args.b.now) = c.decode-y.ensures ∙ ap bit_of c.sign-2.ensures ∙ sign_bit c.args.b.now in
+    simp (c.or-2.ensures, c.and-below.ensures, c.not-2.ensures, c.and.ensures, c.and-above.ensures, c.not.ensures, c.or.ensures, c.last_place-p.ensures, x, y)

@@ -1,0 +1,27 @@
+use native.Mathlib.Omega.{arith}
+use Prim.Native.Nat.{ℕ, ◌+◌, ◌*◌, ◌-◌, ◌/◌, ◌%◌, ◌^◌, ◌<◌, ◌≤◌}
+use mathlib.Core.Path.{◌≡◌, refl, sym, ap, ◌∙◌, subst}
+use mathlib.Core.Bool.{Bool, true, false, not}
+use lib.Dec.{eqb, ltb, leb, lit<}
+use borrow.Author.Tests.{not-true, not-false}
+use Rattle.wide.specs.Value.{value_of}
+use lib.Pow.{pow_mono, pow_pos}
+use Rattle.concrete.proofs.Widths.{extended}
+use borrow.Author.Rules.{rules}
+use Rattle.concrete.proofs.apply.sign_extend.Goals as goal
+
+pub returns-then-not-sign_at : goal.returns-then-not-sign_at
+returns-then-not-sign_at c = sym (simp (sym c.sign_at.ensures ∙ not-true _ c.if-not-sign_at.true-raw))
+
+pub minus-high-requires : goal.minus-high-requires
+minus-high-requires c = let m = pow_mono {i = c.args.w} {j = c.args.o} c.requires.1 in
+    subst (λ (n : ℕ). n ≤ value_of c.ones.result) (sym c.ones-2.ensures) (subst (λ (n : ℕ). 2 ^ c.args.w - 1 ≤ n) (sym c.ones.ensures) (omega arith))
+
+pub returns : goal.returns
+returns c = let x = c.args in
+    let m = pow_mono {i = x.w} {j = x.o} c.requires.1 in
+    c.add.ensures ∙ ap (λ (n : ℕ). (value_of x.a + n) % 2 ^ 128) c.minus-high.ensures
+    ∙ ap (λ (n : ℕ). (value_of x.a + (n - value_of c.ones-2.result)) % 2 ^ 128) c.ones.ensures
+    ∙ ap (λ (n : ℕ). (value_of x.a + (2 ^ x.o - 1 - n)) % 2 ^ 128) c.ones-2.ensures
+    ∙ extended (value_of x.a) (2 ^ x.o) (2 ^ x.w) (2 ^ 128) c.requires.0.first m (pow_mono {i = x.o} {j = 128} c.requires.2)
+    ∙ sym (simp (sym c.sign_at.ensures ∙ not-false _ c.if-not-sign_at.false-raw))

@@ -1,0 +1,17 @@
+use mathlib.Core.Path.{◌≡◌}
+use mathlib.Core.Bool.{true, false}
+use Rattle.concrete.proofs.Signs.{signed_less_lem}
+use borrow.Author.Rules.{rules}
+use Rattle.concrete.proofs.compare.signed_less.Goals as goal
+
+pub returns-then-sign_at-2 : goal.returns-then-sign_at-2
+returns-then-sign_at-2 c = cc (signed_less_lem c.requires true true (cc) (cc))
+
+pub returns-then-sign_at : goal.returns-then-sign_at
+returns-then-sign_at c = cc (signed_less_lem c.requires true false (cc) (cc))
+
+pub returns-then-sign_at-3 : goal.returns-then-sign_at-3
+returns-then-sign_at-3 c = cc (signed_less_lem c.requires false true (cc) (cc))
+
+pub returns : goal.returns
+returns c = cc (signed_less_lem c.requires false false (cc) (cc))

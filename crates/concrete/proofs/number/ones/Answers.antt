@@ -1,0 +1,13 @@
+use native.Mathlib.Omega.{arith}
+use Prim.Native.Nat.{ℕ, ◌+◌, ◌*◌, ◌-◌, ◌/◌, ◌%◌, ◌^◌, ◌<◌, ◌≤◌}
+use mathlib.Core.Path.{◌≡◌, refl, sym, ap, ◌∙◌, subst}
+use mathlib.Core.Bool.{Bool, not}
+use lib.Dec.{lit<, lit≤}
+use Rattle.wide.specs.Value.{value_of}
+use Rattle.concrete.proofs.Widths.{all_cut}
+use borrow.Author.Rules.{rules}
+use Rattle.concrete.proofs.number.ones.Goals as goal
+
+pub returns : goal.returns
+unfolding value_of
+returns c = c.cut.ensures ∙ all_cut c.args.w (search rules)

@@ -1,0 +1,18 @@
+use native.Mathlib.Omega.{arith}
+use Prim.Native.Nat.{ℕ, ◌+◌, ◌*◌, ◌-◌, ◌/◌, ◌%◌, ◌^◌, ◌<◌, ◌≤◌}
+use mathlib.Core.Path.{◌≡◌, refl, sym, ap, ◌∙◌, subst}
+use mathlib.Core.Bool.{Bool, not}
+use lib.Dec.{lit<, lit≤}
+use Rattle.wide.specs.Value.{value_of}
+use Rattle.concrete.proofs.Widths.{cut_cut}
+use native.Mathlib.Nat.{mod-eq_of_lt}
+use lib.Pow.{pow-lt, suc_ones, pow_pos}
+use borrow.Author.Rules.{rules}
+use Rattle.concrete.proofs.number.power.Goals as goal
+
+pub returns : goal.returns
+returns c = let k = c.args.k in
+    let p = pow_pos k in
+    let s : 2 ^ k - 1 + 1 ≡ 2 ^ k = omega arith in
+    c.add.ensures ∙ ap (λ (n : ℕ). (n + value_of c.small.result) % 2 ^ 128) c.ones-low.ensures ∙ ap (λ (n : ℕ). (2 ^ k - 1 + n) % 2 ^ 128) c.small.ensures
+    ∙ ap (λ (n : ℕ). n % 2 ^ 128) s ∙ mod-eq_of_lt (pow-lt {i = k} {j = 128} (search rules))

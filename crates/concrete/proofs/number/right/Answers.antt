@@ -1,0 +1,20 @@
+use native.Mathlib.Omega.{arith}
+use Prim.Native.Nat.{ℕ, ◌+◌, ◌*◌, ◌-◌, ◌/◌, ◌%◌, ◌^◌, ◌<◌, ◌≤◌}
+use mathlib.Core.Path.{◌≡◌, refl, sym, ap, ◌∙◌, subst}
+use mathlib.Core.Bool.{Bool, not}
+use lib.Dec.{lit<, lit≤}
+use Rattle.wide.specs.Value.{value_of}
+use lib.Dec.{leb}
+use borrow.Author.Tests.{leb-true, leb-false}
+use Rattle.concrete.proofs.Widths.{low_half}
+use borrow.Author.Rules.{rules}
+use Rattle.concrete.proofs.number.right.Goals as goal
+
+pub returns-then-past : goal.returns-then-past
+returns-then-past c = c.small.ensures ∙ sym (simp (sym c.past.ensures ∙ c.if-past.true))
+
+pub returns : goal.returns
+returns c = let x = c.args in
+    let p = sym c.past.ensures ∙ c.if-past.false in
+    let l = leb-false x.w (value_of x.b) p in
+    c.shr.ensures ∙ ap (λ (n : ℕ). value_of x.a / 2 ^ n) (low_half x.b x.w (search rules) l) ∙ sym (simp p)

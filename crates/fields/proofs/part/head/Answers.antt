@@ -1,0 +1,14 @@
+use native.Mathlib.Omega.{arith}
+use mathlib.Core.Path.{◌≡◌, sym, ap, subst}
+use Prim.Native.Nat.{ℕ, ◌≤◌}
+use lib.ListN.{length}
+use lib.Seq.{length-take-le}
+use Rattle.fields.proofs.Parts.{placed}
+use borrow.Author.Rules.{rules}
+use Rattle.fields.proofs.part.head.Goals as goal
+
+pub slice_bounds-result-end : goal.slice_bounds-result-end
+slice_bounds-result-end c = sym (length-take-le _ _ (rw c.place-p.ensures (placed c.args.b c.args.s.now)))
+
+pub returns : goal.returns
+returns c = rw c.place-p.ensures

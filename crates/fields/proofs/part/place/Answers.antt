@@ -1,0 +1,17 @@
+use borrow.Author.Rules.{rules}
+use native.Mathlib.Omega.{arith}
+use Prim.Native.Nat.{ℕ, ◌≤◌, ◌+◌, ◌-◌}
+use mathlib.Core.Path.{◌≡◌}
+use lib.ListN.{length, drop}
+use Rattle.fields.specs.Parts.{place_of}
+use Rattle.fields.proofs.Parts.{place_here, place_more, place_end}
+use Rattle.fields.proofs.part.place.Goals as goal
+
+pub returns-then-s-i : goal.returns-then-s-i
+returns-then-s-i c = omega (arith, place_here c.args.b c.args.s.now c.loop-i.i (omega arith) c.if-s-i.true)
+
+pub loop-i-preserved : goal.loop-i-preserved
+loop-i-preserved c = omega (arith, place_more c.args.b c.args.s.now c.loop-i.i (omega arith) c.if-s-i.false)
+
+pub returns : goal.returns
+returns c = omega (arith, place_end c.args.b c.args.s.now c.loop-i.i (omega arith))

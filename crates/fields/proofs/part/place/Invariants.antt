@@ -1,0 +1,14 @@
+use borrow.Author.Rules.{rules}
+use native.Mathlib.Omega.{arith}
+use Prim.Native.Nat.{ℕ, ◌≤◌, ◌+◌, ◌-◌}
+use mathlib.Core.Path.{◌≡◌}
+use lib.ListN.{length, drop}
+use Rattle.fields.specs.Parts.{place_of}
+use Rattle.fields.proofs.Parts.{place_here, place_more, place_end}
+use Rattle.fields.proofs.part.place.Given as goal
+
+abbrev pub invariant-loop-i : goal.invariant-loop-i
+invariant-loop-i l = (l.i ≤ length l.s) × (place_of l.b l.s ≡ l.i + place_of l.b (drop l.i l.s))
+
+abbrev pub decreases-loop-i : goal.decreases-loop-i
+decreases-loop-i l = length l.s - l.i

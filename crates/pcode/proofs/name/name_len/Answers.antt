@@ -1,0 +1,16 @@
+use native.Mathlib.Omega.{arith}
+use Prim.Native.Nat.{ℕ, ◌<◌, ◌≤◌}
+use mathlib.Core.Path.{◌≡◌, sym, ap, subst, ◌∙◌}
+use lib.ListN.{length}
+use mir.Syntax.{w64}
+use mir.Val.{Fits}
+use Rattle.pcode.specs.Names.{name_of}
+use Rattle.pcode.proofs.Names.{table, length_at, none_past, length_fits}
+use borrow.Author.Rules.{rules}
+use Rattle.pcode.proofs.name.name_len.Goals as goal
+
+pub returns-then-code-ge72 : goal.returns-then-code-ge72
+returns-then-code-ge72 c = sym (ap (λ l. length l) (none_past c.args.code c.if-code-ge72.true))
+
+pub returns : goal.returns
+returns c = length_at c.args.code (search rules)

@@ -1,0 +1,13 @@
+use borrow.Author.Rules.{rules}
+use native.Mathlib.Omega.{arith}
+use Prim.Native.Nat.{ℕ, ◌≤◌, ◌+◌, ◌-◌}
+use mathlib.Core.Path.{◌≡◌, sym, ◌∙◌}
+use Rattle.record.specs.Names.{code_named}
+use Rattle.record.proofs.Names.{code_from, code_start, code_end, code_here, code_more}
+use Rattle.record.proofs.name.code.Given as goal
+
+abbrev pub invariant-loop-k : goal.invariant-loop-k
+invariant-loop-k l = (l.k ≤ 72) × (code_named l.s ≡ l.k + code_from l.k l.s)
+
+abbrev pub decreases-loop-k : goal.decreases-loop-k
+decreases-loop-k l = 72 - l.k
