@@ -1,0 +1,16 @@
+use borrow.Author.Rules.{rules}
+use native.Mathlib.Omega.{arith}
+use Prim.Native.Nat.{ℕ, ◌-◌}
+use mathlib.Core.Path.{ap}
+use mathlib.Core.List.{List}
+use lib.ListN.{length, drop, drop_of_length-le}
+use Rattle.const_eval.specs.State.{keep_flags}
+use Rattle.bit_vec.proofs.Store.{Stored, begin, finish}
+use Rattle.const_eval.proofs.Codes.{keep_turn}
+use Rattle.const_eval.proofs.known.keep.Given as goal
+
+abbrev pub invariant-loop-i : goal.invariant-loop-i
+invariant-loop-i l = Stored l.initial.used (keep_flags l.initial.used l.temp) (keep_flags (drop l.i l.initial.used) (drop l.i l.temp)) l.used l.i
+
+abbrev pub decreases-loop-i : goal.decreases-loop-i
+decreases-loop-i l = length l.initial.used - l.i

@@ -1,0 +1,23 @@
+use borrow.Author.Rules.{rules}
+use native.Mathlib.Omega.{arith}
+use Prim.Native.Nat.{ℕ, ◌≤◌, ◌<◌, ◌+◌, ◌-◌, min}
+use mathlib.Core.Path.{◌≡◌, refl, sym, ap, ◌∙◌, subst}
+use mathlib.Core.Bool.{Bool, true, false}
+use mathlib.Core.List.{List, ◌++◌}
+use lib.ListN.{length, get_or, take, drop}
+use lib.Seq.{length-take-le, get_or-take}
+use Rattle.pcode.specs.Block.{has_id, blank_stmt}
+use Rattle.pcode.specs.declared.var.VarId.{VarId}
+use Rattle.vars.specs.Vars.{row_of}
+use Rattle.live_tables.specs.Rows.{Named, RowsAre, rows_of}
+use Rattle.dead_store.specs.Stays.{judge, dead_of}
+use Rattle.live_tables.specs.Tables.{Long}
+use Rattle.dead_store.specs.Walks.{none_dead}
+use Rattle.dead_store.proofs.Walking.{Walked, walked_none, walked_more, walked_all, stepped_of_lem}
+use Rattle.dead_store.proofs.detector.walk.Given as goal
+
+abbrev pub invariant-loop-i : goal.invariant-loop-i
+invariant-loop-i l = (l.i ≤ l.n) × Long l.last_write l.live_reads l.live_across_block × ((l : List VarId) (persist : VarId → Bool) → Named l (take l.n l.stmts) → RowsAre l (take l.n l.stmts) l.rows → ((id : VarId) → has_id l id ≡ true → get_or l.persists (row_of l id) false ≡ persist id) → Walked l persist l.persists (take l.n l.stmts) l.n l.initial.dead l.i l.last_write l.live_reads l.live_across_block l.dead)
+
+abbrev pub decreases-loop-i : goal.decreases-loop-i
+decreases-loop-i l = l.i

@@ -1,0 +1,12 @@
+use Rattle.std.proofs.Common.{◌≡◌, ◌+◌, ◌-◌, ◌<◌, length, drop, arith, rules}
+use Rattle.bit_vec.proofs.Store.{Stored, begin, place_turn, place_done, here}
+use Rattle.eval.proofs.Laws.{length_names, name_at}
+use Rattle.eval.specs.Name.{name_from}
+use Rattle.bit_vec.specs.Lists.{bits, codes}
+use Rattle.eval.proofs.name.name.Given as goal
+
+abbrev pub invariant-loop-i : goal.invariant-loop-i
+invariant-loop-i l = Stored l.initial.out (codes (name_from l.id 0 (bits l.initial.out))) (drop l.i (codes (name_from l.id 0 (bits l.initial.out)))) l.out l.i
+
+abbrev pub decreases-loop-i : goal.decreases-loop-i
+decreases-loop-i l = length l.initial.out - l.i

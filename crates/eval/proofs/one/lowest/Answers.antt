@@ -1,0 +1,5 @@
+use Rattle.std.proofs.Common.{rules}
+use Rattle.eval.proofs.one.lowest.Goals as goal
+
+pub returns : goal.returns
+returns c = simp (c.decode.ensures, c.at.ensures, c.encode-zero.ensures)

@@ -1,0 +1,8 @@
+use native.Mathlib.Omega.{arith}
+use Rattle.live_tables.specs.Rows.{rows_of}
+use borrow.Author.Rules.{rules}
+use Rattle.live_tables.proofs.rows.stmt_rows.Goals as goal
+
+pub returns : goal.returns
+unfolding rows_of
+returns c = rw (c.row_in-b.ensures, c.row_in-a.ensures, c.row_in-out.ensures, c.operand-o.ensures)

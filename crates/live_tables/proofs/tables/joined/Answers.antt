@@ -1,0 +1,6 @@
+use native.Mathlib.Omega.{arith}
+use borrow.Author.Rules.{rules}
+use Rattle.live_tables.proofs.tables.joined.Goals as goal
+
+pub returns : goal.returns
+returns c = simp c.if-marker.false

@@ -1,0 +1,9 @@
+use borrow.Author.Rules.{rules}
+use native.Mathlib.Omega.{arith}
+use mathlib.Core.Path.{refl}
+use Rattle.live_tables.specs.Tables.{no_flags}
+use Rattle.live_tables.proofs.tables.no_flags.Goals as goal
+
+pub returns : goal.returns
+unfolding no_flags
+returns c = refl

@@ -1,0 +1,17 @@
+use borrow.Author.Rules.{rules}
+use native.Mathlib.Omega.{arith}
+use Prim.Native.Nat.{ℕ, ◌≤◌, ◌<◌, ◌+◌, ◌*◌, ◌-◌}
+use mathlib.Core.List.{List, []}
+use mathlib.Core.Path.{◌≡◌, refl, sym, ap, subst, ◌∙◌}
+use lib.ListN.{length, take}
+use Rattle.print.specs.Texts.{Wrote}
+use Rattle.print.specs.Printing.{printed}
+use Rattle.print.proofs.Writes.{then, retold, none}
+use Rattle.print.proofs.Records.{printed_none, printed_more}
+use Rattle.print.proofs.print.records.Given as goal
+
+abbrev pub invariant-loop-i : goal.invariant-loop-i
+invariant-loop-i l = (l.i ≤ l.n) × (l.n ≤ 129) × (106 * l.n ≤ length l.initial.out) × Wrote (106 * l.i) l.initial.out 0 (printed (take l.i l.stmts)) l.out l.at
+
+abbrev pub decreases-loop-i : goal.decreases-loop-i
+decreases-loop-i l = l.n - l.i

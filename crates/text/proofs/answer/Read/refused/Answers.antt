@@ -1,0 +1,8 @@
+use native.Mathlib.Omega.{arith}
+use Rattle.text.specs.Reading.{refused_read}
+use borrow.Author.Rules.{rules}
+use Rattle.text.proofs.answer.Read.refused.Goals as goal
+
+pub returns : goal.returns
+unfolding refused_read
+returns c = simp (c.new-block.ensures, c.none-marks.ensures)
