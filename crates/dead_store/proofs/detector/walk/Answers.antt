@@ -32,7 +32,7 @@ step-live-requires c = let m : length c.args.persists ≡ 112 = search rules in
 pub loop-i-preserved : goal.loop-i-preserved
 loop-i-preserved c = let a = c.args in
     let v = c.loop-i in
-    let u = c.step-live.new.1 in
+    let u = c.step-live.new in
     let m : length a.stmts ≡ 129 = search rules in
     let d : length c.none_dead-dead.result ≡ 129 = search rules in
     let e : length (take a.n a.stmts) ≡ a.n = length-take-le a.n a.stmts (omega arith) in
@@ -40,9 +40,9 @@ loop-i-preserved c = let a = c.args in
     let w = c.step-live.ensures in (
       omega arith,
       record { last = w.last.long; reads = w.reads.long; across = w.across.long },
-      λ l persist h r k. walked_more l persist a.persists (take a.n a.stmts) a.n c.none_dead-dead.result e h k v.i (v.i - 1) v.last-write v.live-reads v.live-across-block
-          u.0 u.1.0 u.1.1.0 v.dead c.step-live.result (omega arith) (omega arith) (omega arith) (v.invariant.2 l persist h r k)
-          (stepped_of_lem a.persists v.last-write v.live-reads v.live-across-block u.0 u.1.0 u.1.1.0 c.step-live.result g (r (v.i - 1) (omega arith)) w),
+      λ l persist h r k. walked_more l persist a.persists (take a.n a.stmts) a.n c.none_dead-dead.result e h k v.i (v.i - 1) v.last_write v.live_reads v.live_across_block
+          u.last u.reads u.across v.dead c.step-live.result (omega arith) (omega arith) (omega arith) (v.invariant.2 l persist h r k)
+          (stepped_of_lem a.persists v.last_write v.live_reads v.live_across_block u.last u.reads u.across c.step-live.result g (r (v.i - 1) (omega arith)) w),
     )
 
 pub returns : goal.returns
@@ -50,6 +50,6 @@ returns c = λ l persist h r k. (let a = c.args in
     let v = c.loop-i in
     let m : length a.stmts ≡ 129 = search rules in
     let e : length (take a.n a.stmts) ≡ a.n = length-take-le a.n a.stmts (omega arith) in
-    walked_all l persist a.persists (take a.n a.stmts) a.n c.none_dead-dead.result e v.i v.last-write v.live-reads v.live-across-block v.dead (omega arith) (v.invariant.2 l persist h r k)
+    walked_all l persist a.persists (take a.n a.stmts) a.n c.none_dead-dead.result e v.i v.last_write v.live_reads v.live_across_block v.dead (omega arith) (v.invariant.2 l persist h r k)
     ∙ ap (λ (o : List Bool). dead_of (judge persist (take a.n a.stmts)) ++ drop a.n o) c.none_dead-dead.ensures
     ∙ ap (λ (j : ℕ). dead_of (judge persist (take a.n a.stmts)) ++ drop j none_dead) (sym e))

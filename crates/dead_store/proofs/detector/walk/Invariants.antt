@@ -17,7 +17,7 @@ use Rattle.dead_store.proofs.Walking.{Walked, walked_none, walked_more, walked_a
 use Rattle.dead_store.proofs.detector.walk.Given as goal
 
 abbrev pub invariant-loop-i : goal.invariant-loop-i
-invariant-loop-i l = (l.i ≤ l.n) × Long l.last_write l.live_reads l.live_across_block × ((l : List VarId) (persist : VarId → Bool) → Named l (take l.n l.stmts) → RowsAre l (take l.n l.stmts) l.rows → ((id : VarId) → has_id l id ≡ true → get_or l.persists (row_of l id) false ≡ persist id) → Walked l persist l.persists (take l.n l.stmts) l.n l.initial.dead l.i l.last_write l.live_reads l.live_across_block l.dead)
+invariant-loop-i z = (z.i ≤ z.n) × Long z.last_write z.live_reads z.live_across_block × ((l : List VarId) (persist : VarId → Bool) → Named l (take z.n z.stmts) → RowsAre l (take z.n z.stmts) z.rows → ((id : VarId) → has_id l id ≡ true → get_or z.persists (row_of l id) false ≡ persist id) → Walked l persist z.persists (take z.n z.stmts) z.n z.initial.dead z.i z.last_write z.live_reads z.live_across_block z.dead)
 
 abbrev pub decreases-loop-i : goal.decreases-loop-i
 decreases-loop-i l = l.i

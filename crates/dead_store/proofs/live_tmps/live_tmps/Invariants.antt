@@ -18,7 +18,7 @@ use Rattle.dead_store.proofs.Scanning.{Scanned, scan_none, scan_all, scan_label,
 use Rattle.dead_store.proofs.live_tmps.live_tmps.Given as goal
 
 abbrev pub invariant-loop-i : goal.invariant-loop-i
-invariant-loop-i l = (l.i ≤ l.n) × (length l.live ≡ 112) × (length l.written ≡ 112) × ((l : List VarId) → Named l (take l.n l.stmts) → RowsAre l (take l.n l.stmts) l.rows → (id : VarId) → has_id l id ≡ true → Scanned (take l.n l.stmts) id l.i (get_or l.live (row_of l id) false) (get_or l.written (row_of l id) false))
+invariant-loop-i z = (z.i ≤ z.n) × (length z.live ≡ 112) × (length z.written ≡ 112) × ((l : List VarId) → Named l (take z.n z.stmts) → RowsAre l (take z.n z.stmts) z.rows → (id : VarId) → has_id l id ≡ true → Scanned (take z.n z.stmts) id z.i (get_or z.live (row_of l id) false) (get_or z.written (row_of l id) false))
 
 abbrev pub decreases-loop-i : goal.decreases-loop-i
 decreases-loop-i l = l.n - l.i

@@ -18,7 +18,7 @@ pub loop-i-preserved : goal.loop-i-preserved
 loop-i-preserved c = let a = c.args in
     let l = c.loop-i in
     let m : length a.stmts ≡ 129 = search rules in
-    (search rules, search rules, search rules, retold (printed_more a.stmts l.i (omega arith)) (omega arith) (then {k = 106 * l.i} {l = 106} (omega arith) l.invariant.3 c.«record».ensures))
+    (search rules, search rules, search rules, retold (printed_more a.stmts l.i (omega arith)) (omega arith) (then {k = 106 * l.i} {l = 106} (omega arith) l.invariant.3 c.record-at.ensures))
 
 pub returns : goal.returns
 returns c = let a = c.args in

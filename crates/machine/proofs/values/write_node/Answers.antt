@@ -1,0 +1,27 @@
+use native.Mathlib.Omega.{arith}
+use Prim.Native.Nat.{ℕ, ◌+◌, ◌*◌, ◌-◌, ◌/◌, ◌%◌, ◌^◌, ◌<◌, ◌≤◌}
+use mathlib.Core.Path.{◌≡◌, refl, sym, ap, ◌∙◌, subst}
+use mathlib.Core.List.{List}
+use Rattle.wide.specs.Value.{value_of}
+use Rattle.vars.specs.Vars.{held_ids, row_of}
+use Rattle.state.specs.Bytes.{read_of, write_of}
+use Rattle.machine.specs.Values.{value_in, written, HeldOperand, HeldOutput}
+use Rattle.pcode.specs.declared.var.Operand.{Operand}
+use Rattle.pcode.specs.declared.var.Output.{Output}
+use Rattle.vars.proofs.Rows.{row_below}
+use borrow.Author.Rules.{rules}
+use Rattle.machine.proofs.values.write_node.Goals as goal
+
+pub write-requires : goal.write-requires
+write-requires c = let x = c.args in
+    let p = c.requires in
+    let b = row_below (held_ids x.vars) x.v.id p.named in
+    let r = c.row-row.ensures in
+    let l = p.room in
+    let i = p.inside in
+    (omega arith, omega arith)
+
+pub returns : goal.returns
+returns c =
+    let x = c.args in
+    c.write.ensures ∙ ap (λ (n : ℕ). write_of x.state n x.v.offset x.v.size (value_of x.x)) c.row-row.ensures
