@@ -1,0 +1,7 @@
+use native.Mathlib.Omega.{arith}
+use Rattle.widen.proofs.Sizes.{zeros_slice}
+use borrow.Author.Rules.{rules}
+use Rattle.widen.proofs.widen.zeros_above.Goals as goal
+
+pub returns : goal.returns
+returns c = let a = c.args in zeros_slice a.store.now a.p c.known_trailing_zeros.result c.requires.inside c.known_trailing_zeros.ensures
