@@ -20,7 +20,7 @@ use Rattle.const_eval.specs.declared.place.Place.{Place}
 use Rattle.const_eval.specs.Known.{Fit, Within}
 use Rattle.const_eval.specs.State.{State, first_use, cleared, forgotten, Good, Able}
 use Rattle.const_eval.proofs.Keeps.{Kept, same_kept, cleared_kept, forgotten_kept, good_within}
-use Rattle.uses.specs.Operands.{place_of, InOperand}
+use Rattle.uses.specs.Operands.{operand_bits, place_of, InOperand}
 use Rattle.settle.specs.declared.Outcome.{Outcome}
 use Rattle.settle.specs.declared.Outcome.TheVariants as Outcome
 use Rattle.settle.specs.Settle.{settled_of}
@@ -194,4 +194,4 @@ simplify_in vars t st s u x a hu hx =
     let g = simplify_grown vars t st s a in
     let e : length u.store ≡ 128 * length s.used = ap (λ (z : State). length z.store) hu ∙ g.store_length ∙ a.able.good.rows in
     subst (λ (z : Simple). InSimple (length u.store) vars z) (sym hx)
-    (turned_in (length u.store) vars _ _ t (replaced_of vars st s) (used_both vars st s) (output_in (length u.store) (length s.used) vars st.output e a.output))
+    (turned_in (length u.store) vars (operand_bits vars st.first) (operand_bits vars st.second) t (replaced_of vars st s) (used_both vars st s) (output_in (length u.store) (length s.used) vars st.output e a.output))

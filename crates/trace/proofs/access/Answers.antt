@@ -1,0 +1,9 @@
+use native.Mathlib.Omega.{arith}
+use Rattle.print.proofs.Writes.{then}
+use Rattle.trace.specs.Words.{access_words}
+use borrow.Author.Rules.{rules}
+use Rattle.trace.proofs.access.Goals as goal
+
+pub returns : goal.returns
+unfolding access_words
+returns c = then {k = 1} {l = 5} (omega arith) c.word-p.ensures (then {k = 1} {l = 4} (omega arith) c.word-q.ensures (then {k = 2} {l = 2} (omega arith) c.pair-x.ensures c.pair.ensures))

@@ -1,0 +1,6 @@
+use Rattle.print.proofs.Writes.{one}
+use borrow.Author.Rules.{rules}
+use Rattle.trace.proofs.word.Goals as goal
+
+pub returns : goal.returns
+returns c = one c.args.trace.now c.args.at c.args.x c.requires
