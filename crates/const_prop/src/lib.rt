@@ -156,7 +156,7 @@ fn advance(
     k: usize,
 ) -> Stepped
     requires apt { Apt vars s (state_of store.old used.old map.old t) × Rows ca.old cb.old out.old × (length temp.now ≡ length used.old) }
-    requires i_lt_n { (i < n) × (n ≤ length below.now) × (k ≤ length jumps.now) }
+    requires in_range { (i < n) × (n ≤ length below.now) × (k ≤ length jumps.now) }
     ensures result_after { stepped_of (state_of store.new used.new map.new result.tally) result ≡ step_by vars temp.now (take (n - (i + 1)) (drop (i + 1) below.now)) (take k jumps.now) least skip (turn_of s.op) s (state_of store.old used.old map.old t) }
     ensures rows { Rows ca.new cb.new out.new }
 {

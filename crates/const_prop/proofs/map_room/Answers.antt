@@ -1,0 +1,9 @@
+use borrow.Author.Rules.{rules}
+use native.Mathlib.Omega.{arith}
+use mathlib.Core.Path.{◌≡◌, refl, sym, ◌∙◌, ap, subst}
+use Rattle.const_prop.specs.Pass.{no_map}
+use Rattle.const_prop.proofs.map_room.Goals as goal
+
+pub returns : goal.returns
+unfolding no_map
+returns c = refl

@@ -1,0 +1,19 @@
+use borrow.Author.Rules.{rules}
+use native.Mathlib.Omega.{arith}
+use Prim.Native.Nat.{◌-◌, ◌<◌, ◌≤◌}
+use mathlib.Core.Path.{◌≡◌, sym}
+use lib.ListN.{length, take, get_or}
+use lib.Seq.{get_or-take, length-take-le}
+use Rattle.pcode.specs.Block.{blank_stmt}
+use Rattle.wide.specs.Value.{value_of}
+use Rattle.vars.specs.Vars.{held_ids}
+use Rattle.run.specs.Run.{Runnable}
+use Rattle.run.proofs.Bytes.{shaped}
+use Rattle.run.proofs.Going.{given_of, Going, ready_at, going_none, going_past, going_on, going_rows, going_words}
+use Rattle.run.proofs.forward.forward.Given as goal
+
+abbrev pub invariant-loop-i : goal.invariant-loop-i
+invariant-loop-i l = (l.i ≤ l.n) × (l.n ≤ 129) × (l.vars.count ≤ 112) × Runnable (held_ids l.vars) (take l.n l.stmts) × (29900 ≤ length l.initial.trace) × Going (given_of l.marks (held_ids l.vars) l.answers (take l.n l.stmts) l.initial.state l.initial.trace) l.i l.flow l.state l.loads l.trace l.at
+
+abbrev pub decreases-loop-i : goal.decreases-loop-i
+decreases-loop-i l = l.n - l.i

@@ -1,0 +1,6 @@
+use Rattle.run.proofs.Ended.{of_class}
+use borrow.Author.Rules.{rules}
+use Rattle.run.proofs.run.run.Goals as goal
+
+pub returns : goal.returns
+returns c = of_class c.own.ensures c.run_class.ensures
