@@ -1,0 +1,12 @@
+use native.Mathlib.Omega.{arith}
+use mathlib.Core.Path.{◌≡◌, refl, sym, ◌∙◌, ap, subst}
+use Rattle.text.specs.declared.answer.Answer.{Answer}
+use Rattle.optimizer.specs.First.{treated_by}
+use borrow.Author.Rules.{rules}
+use Rattle.optimizer.proofs.first.treated.Goals as goal
+
+pub returns-in-Ok : goal.returns-in-Ok
+returns-in-Ok c = let a = c.args in sym (ap (λ (z : Answer). treated_by z a.out a.block) c.in-Ok.is)
+
+pub returns-in-Refused : goal.returns-in-Refused
+returns-in-Refused c = let a = c.args in sym (ap (λ (z : Answer). treated_by z a.out a.block) c.in-Refused.is)
