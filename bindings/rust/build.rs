@@ -1,4 +1,4 @@
-//! Finds the static library that `rt staticlib quargnil` writes and has it linked; it is x86-64 code for Linux.
+//! Finds the static library that `rt lib` writes in crates/quargnil and has it linked; it is x86-64 code for Linux.
 
 use std::env;
 use std::path::PathBuf;
@@ -7,7 +7,7 @@ use std::path::PathBuf;
 const VARIABLE: &str = "QUARGNIL_LIB";
 
 /// Where it stands if the variable isn't set, seen from this crate's folder.
-const DEFAULT: &str = "../../target/staticlib";
+const DEFAULT: &str = "../../crates/quargnil/out";
 
 fn main() {
     println!("cargo:rerun-if-env-changed={VARIABLE}");
@@ -28,7 +28,7 @@ fn main() {
     if !library.exists() {
         eprintln!("{} is not there.", library.display());
         eprintln!(
-            "Run `rt staticlib quargnil` in the repository's top folder, or set {VARIABLE} to the folder that has it."
+            "Run `rt lib` in the folder crates/quargnil, or set {VARIABLE} to the folder that has it."
         );
         std::process::exit(1);
     }

@@ -30,11 +30,11 @@ pub fn generated(seed: u64, case: u64) -> (usize, Vec<u8>) {
     }
 }
 
-/// The block program: the file named, or where `rt check block` puts it.
+/// The block program: the file named, or where `rt run` puts it.
 pub fn program(arguments: &Arguments) -> PathBuf {
     match arguments.files.first() {
         Some(path) => PathBuf::from(path),
-        None => PathBuf::from(env!("CARGO_MANIFEST_DIR")).join("../../target/bin/block"),
+        None => PathBuf::from(env!("CARGO_MANIFEST_DIR")).join("../../crates/block/out/block"),
     }
 }
 
