@@ -1,7 +1,8 @@
 // The block program: standard input through both passes to standard output.
 #![tactic(auto)]
 
-ghost use Rattle.std.specs.Prelude.{◌+◌, ◌≤◌, ◌<◌, ◌≡◌, length, IfOk};
+ghost use Rattle.std.specs.Prelude.{◌+◌, ◌≤◌, ◌<◌, ◌≡◌, length, take, IfOk};
+ghost use Rattle.std.specs.Io.KnownBytes.{Consumes, IsAtEnd};
 ghost use Rattle.print.specs.Rooms.{block_room};
 ghost use Rattle.print.specs.Texts.{written};
 ghost use Rattle.front.specs.Front.{input_room, answer_of};
@@ -38,15 +39,17 @@ fn answer(input: &[u8], out: &mut [u8]) -> usize
     }
 }
 
-// Reads until `list` is full or the input ends. How many bytes stand at its start.
-fn fill<R: Read>(input: &mut R, list: &mut [u8]) -> io::Result<usize>
-    ensures { IfOk result (λ n. n ≤ length list.new) }
+// Reads until `input` is full or the input ends. How many bytes stand at its start.
+fn fill<R: Read>(from: &mut R, input: &mut [u8]) -> io::Result<usize>
+    ensures fits { IfOk result (λ n. n ≤ length input.new) }
+    ensures bytes { IfOk result (λ n. Consumes (R.remaining from.old) (R.remaining from.new) (take n input.new)) }
+    ensures end { IfOk result (λ n. n < length input.new → IsAtEnd (R.remaining from.new)) }
 {
     let mut done = 0;
-    while done < list.len() {
-        let n = input.read(&mut list[done..])?;
+    while done < input.len() {
+        let n = from.read(&mut input[done..])?;
         if n == 0 {
-            break;
+            return Ok(done);
         }
         done += n;
     }
