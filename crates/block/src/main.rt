@@ -1,15 +1,17 @@
 // The block program: standard input through both passes to standard output.
 #![tactic(auto)]
 
-ghost use Rattle.std.specs.Prelude.{◌+◌, ◌≤◌, ◌<◌, ◌≡◌, length};
+ghost use Rattle.std.specs.Prelude.{◌+◌, ◌≤◌, ◌<◌, ◌≡◌, length, take, IfOk};
+ghost use Rattle.std.specs.Io.KnownBytes.{Consumes, IsAtEnd};
 ghost use Rattle.print.specs.Rooms.{block_room};
 ghost use Rattle.print.specs.Texts.{written};
 ghost use Rattle.front.specs.Front.{input_room, answer_of};
 ghost use Rattle.front.specs.declared.Pass.TheVariants.{Both};
 
 use front::{Pass, treat};
-use libc::{STDIN_FILENO, STDOUT_FILENO};
 use print::print::Printed;
+use std::io;
+use std::io::Read;
 
 // Room for the bytes that decide every answer: `beginning-decides` of crates/front.
 fn room() -> [u8; 32768]
@@ -37,17 +39,34 @@ fn answer(input: &[u8], out: &mut [u8]) -> usize
     }
 }
 
-fn show(out: &[u8], n: usize) {
-    if out.len() < n {
-        return;
+// Reads until `input` is full or the input ends. How many bytes stand at its start.
+fn fill<R: Read>(from: &mut R, input: &mut [u8]) -> io::Result<usize>
+    ensures fits { IfOk result (λ n. n ≤ length input.new) }
+    ensures bytes { IfOk result (λ n. Consumes (R.remaining from.old) (R.remaining from.new) (take n input.new)) }
+    ensures end { IfOk result (λ n. n < length input.new → IsAtEnd (R.remaining from.new)) }
+{
+    let mut done = 0;
+    while done < input.len() {
+        let n = from.read(&mut input[done..])?;
+        if n == 0 {
+            return Ok(done);
+        }
+        done += n;
     }
-    io::write_all(STDOUT_FILENO, &out[..n]);
+    Ok(done)
 }
 
-fn main() {
+fn show(rt: &impl Print, out: &[u8], n: usize) -> io::Result<()> {
+    if out.len() < n {
+        return Ok(());
+    }
+    rt.write_all(&out[..n])
+}
+
+fn main(rt: HostRuntime) -> io::Result<()> {
     let mut input = room();
     let mut out = page();
-    let n = io::read_full(STDIN_FILENO, &mut input);
+    let n = fill(&mut rt.stdin(), &mut input)?;
     let k = answer(&input[..n], &mut out);
-    show(&out, k);
+    show(&rt, &out, k)
 }

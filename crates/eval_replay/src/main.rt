@@ -6,8 +6,9 @@ ghost use Rattle.std.specs.Prelude.{◌≡◌, length};
 mod fields; // fields.rt: the fields of a record
 mod cases; // cases.rt: one record, evaluated and compared
 
-use libc::STDIN_FILENO;
+use sections::input::fill;
 use sections::tally::{Tally, room};
+use std::io;
 
 // One operand's bits.
 fn row() -> [u64; 128]
@@ -28,13 +29,13 @@ fn replay(list: &[u8], a: &mut [u64], b: &mut [u64], out: &mut [u64], want: &mut
     tally
 }
 
-fn main() {
+fn main(rt: HostRuntime) -> io::Result<()> {
     let mut list = room();
     let mut a = row();
     let mut b = row();
     let mut out = row();
     let mut want = row();
-    let n = io::read_full(STDIN_FILENO, &mut list);
+    let n = fill(&mut rt.stdin(), &mut list)?;
     let tally = replay(&list[..n], &mut a, &mut b, &mut out, &mut want);
-    tally.show(b"records ");
+    tally.show(&rt, b"records ")
 }

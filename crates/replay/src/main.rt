@@ -4,8 +4,9 @@
 mod cases; // cases.rt: one input, treated and compared
 
 use front::Pass;
-use libc::STDIN_FILENO;
+use sections::input::fill;
 use sections::tally::{Tally, page, room};
+use std::io;
 
 // The passes whose recorded answers have that first letter.
 fn pass_of(letter: u8) -> Pass {
@@ -37,14 +38,14 @@ fn replay(list: &[u8], letter: u8, out: &mut [u8]) -> Tally {
     tally
 }
 
-fn main() {
+fn main(rt: HostRuntime) -> io::Result<()> {
     let mut list = room();
     let mut out = page();
-    let n = io::read_full(STDIN_FILENO, &mut list);
+    let n = fill(&mut rt.stdin(), &mut list)?;
     let first = replay(&list[..n], b'f', &mut out);
-    first.show(b"first pass: answers ");
+    first.show(&rt, b"first pass: answers ")?;
     let second = replay(&list[..n], b's', &mut out);
-    second.show(b"second pass: answers ");
+    second.show(&rt, b"second pass: answers ")?;
     let both = replay(&list[..n], b'b', &mut out);
-    both.show(b"both passes: answers ");
+    both.show(&rt, b"both passes: answers ")
 }

@@ -7,8 +7,9 @@ mod hex; // hex.rt: bytes in hexadecimal
 mod words; // words.rt: a case's texts as input and as words
 mod cases; // cases.rt: one case, run and compared
 
-use libc::STDIN_FILENO;
+use sections::input::fill;
 use sections::tally::{Tally, room};
+use std::io;
 
 // Room for a trace.
 fn page() -> [u64; 29900]
@@ -71,12 +72,12 @@ fn replay(list: &[u8], answers: &mut [u64], trace: &mut [u64], row: &mut [u64]) 
     tally
 }
 
-fn main() {
+fn main(rt: HostRuntime) -> io::Result<()> {
     let mut list = room();
     let mut answers = short();
     let mut trace = page();
     let mut row = page();
-    let n = io::read_full(STDIN_FILENO, &mut list);
+    let n = fill(&mut rt.stdin(), &mut list)?;
     let tally = replay(&list[..n], &mut answers, &mut trace, &mut row);
-    tally.show(b"runs: answers ");
+    tally.show(&rt, b"runs: answers ")
 }

@@ -1,7 +1,7 @@
 // What a replay of a recorded list prints, how many answers there were and how many agreed, and the room that it takes.
 ghost use Rattle.std.specs.Prelude.{◌≡◌, length};
 
-use libc::STDOUT_FILENO;
+use std::io;
 
 // How many answers there were, and how many agreed.
 #[derive(Clone, Copy)]
@@ -32,12 +32,11 @@ impl Tally {
     }
 
     // One line: the title, which ends where the first count stands, and the counts.
-    pub fn show(self, title: &[u8]) {
-        io::write_all(STDOUT_FILENO, title);
-        io::print_decimal(STDOUT_FILENO, self.answers);
-        io::write_all(STDOUT_FILENO, b", agree ");
-        io::print_decimal(STDOUT_FILENO, self.agree);
-        io::write_all(STDOUT_FILENO, b"\n");
+    pub fn show(self, rt: &impl Print, title: &[u8]) -> io::Result<()> {
+        rt.write_all(title)?;
+        let answers = self.answers;
+        let agree = self.agree;
+        println!(rt; "{answers}, agree {agree}")
     }
 }
 

@@ -6,9 +6,10 @@ ghost use Rattle.text_replay.specs.Answers.{page_room};
 
 mod cases; // cases.rt: one input, read, checked, printed and compared
 
-use libc::STDIN_FILENO;
 use pcode::block::Limits;
+use sections::input::fill;
 use sections::tally::{Tally, page, room};
+use std::io;
 
 // The answers in the sections with that first letter, each to the input above it, within these limits.
 fn replay(list: &[u8], letter: u8, limits: Limits, out: &mut [u8]) -> Tally
@@ -32,12 +33,12 @@ fn replay(list: &[u8], letter: u8, limits: Limits, out: &mut [u8]) -> Tally
     tally
 }
 
-fn main() {
+fn main(rt: HostRuntime) -> io::Result<()> {
     let mut list = room();
     let mut out = page();
-    let n = io::read_full(STDIN_FILENO, &mut list);
+    let n = fill(&mut rt.stdin(), &mut list)?;
     let read = replay(&list[..n], b'r', Limits::first(), &mut out);
-    read.show(b"read: answers ");
+    read.show(&rt, b"read: answers ")?;
     let wide = replay(&list[..n], b'w', Limits::second(), &mut out);
-    wide.show(b"wide: answers ");
+    wide.show(&rt, b"wide: answers ")
 }
