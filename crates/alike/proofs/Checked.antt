@@ -15,7 +15,6 @@ use Rattle.pcode.specs.declared.var.Operand.TheVariants.{None, Const, Var}
 use Rattle.pcode.specs.declared.var.Output.{Output}
 use Rattle.pcode.specs.declared.var.Output.TheVariants as Out
 use Rattle.pcode.specs.declared.op.Op.{Op}
-use Rattle.pcode.specs.declared.op.Op.TheVariants as Op
 use Rattle.pcode.specs.declared.block.Stmt.{Stmt}
 use Rattle.pcode.specs.declared.block.Block.{Block}
 use Rattle.text.specs.declared.answer.Answer.TheVariants.{Ok}

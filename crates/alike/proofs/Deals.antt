@@ -7,7 +7,6 @@ use Rattle.pcode.specs.declared.var.PcodeLabel.{PcodeLabel}
 use Rattle.pcode.specs.declared.op.CallOp.{CallOp}
 use Rattle.pcode.specs.declared.op.CallOp.TheVariants.{Arg, PcodeOp, Hook, HookIf, TracerLoad, TracerStore}
 use Rattle.pcode.specs.declared.op.Op.{Op}
-use Rattle.pcode.specs.declared.op.Op.TheVariants as Op
 use Rattle.vars.proofs.Rows.{ways}
 use Rattle.checks.specs.Labels.{is_label}
 use Rattle.live_tables.specs.declared.rows.Edge.{Edge}
@@ -15,7 +14,6 @@ use Rattle.live_tables.specs.declared.rows.Edge.TheVariants.{Inside, Branch, Lab
 use Rattle.live_tables.specs.Rows.{edge_of, ends}
 use Rattle.step.specs.Steps.{act_of}
 use Rattle.step.specs.declared.Act.{Act}
-use Rattle.step.specs.declared.Act.TheVariants as Act
 
 pub data Deals : Act → Edge → Bool → Type 0 where
   marks : Deals Act.Marks Marker true

@@ -21,7 +21,6 @@ use Rattle.live_tables.specs.Rows.{edge_of, ends, is_marker}
 use Rattle.dead_store.specs.Stays.{names, reads, writes}
 use Rattle.step.specs.Steps.{act_of, flow_of, loads_after}
 use Rattle.step.specs.declared.Act.{Act}
-use Rattle.step.specs.declared.Act.TheVariants as Act
 use Rattle.step.specs.declared.Flow.{Flow}
 use Rattle.step.specs.declared.Flow.TheVariants.{Next, Jump}
 use Rattle.run.specs.Run.{arrived}

@@ -10,7 +10,6 @@ use Rattle.pcode.specs.declared.var.Output.TheVariants as Out
 use Rattle.pcode.specs.declared.block.Stmt.{Stmt}
 use Rattle.step.specs.Steps.{act_of}
 use Rattle.step.specs.declared.Act.{Act}
-use Rattle.step.specs.declared.Act.TheVariants as Act
 
 -- a part lies in a variable's 16 bytes
 abbrev pub InRow : Operand → Type 0

@@ -20,7 +20,6 @@ use Rattle.dead_store.specs.Stays.{names, writes}
 use Rattle.machine.specs.Values.{value_in}
 use Rattle.step.specs.Steps.{Machine, act_of, events_of, flow_of, rows_after, loads_after, step_of}
 use Rattle.step.specs.declared.Act.{Act}
-use Rattle.step.specs.declared.Act.TheVariants as Act
 use Rattle.step.specs.declared.Flow.{Flow}
 use Rattle.step.specs.declared.Flow.TheVariants.{Next, Jump}
 use Rattle.run.specs.Run.{arrived, run_from, Shape}

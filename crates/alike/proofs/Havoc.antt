@@ -19,7 +19,6 @@ use Rattle.meaning.specs.Meaning.{meaning}
 use Rattle.state.specs.Bytes.{bytes_of}
 use Rattle.step.specs.Steps.{act_of, answer_at, loads_after, flow_of}
 use Rattle.step.specs.declared.Act.{Act}
-use Rattle.step.specs.declared.Act.TheVariants as Act
 use Rattle.step.specs.declared.Flow.{Flow}
 use Rattle.step.specs.declared.Flow.TheVariants.{Next, Jump}
 use Rattle.run.specs.Run.{arrived}

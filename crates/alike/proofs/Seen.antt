@@ -16,7 +16,6 @@ use Rattle.machine.specs.Values.{value_in, written, result_in, plain_step}
 use Rattle.step.specs.Events.{Event, Loaded, Stored, Taken, Marked, Ended}
 use Rattle.step.specs.Steps.{Machine, act_of, events_of, flow_of, rows_after, loads_after, loaded_rows, step_of}
 use Rattle.step.specs.declared.Act.{Act}
-use Rattle.step.specs.declared.Act.TheVariants as Act
 use Rattle.step.specs.declared.Flow.{Flow}
 use Rattle.step.specs.declared.Flow.TheVariants.{Next, Jump}
 use Rattle.run.specs.Run.{arrived, run_from, Shape}

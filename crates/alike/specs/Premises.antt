@@ -15,7 +15,6 @@ use Rattle.live_tables.specs.Rows.{edge_of, is_marker}
 use Rattle.dead_store.specs.Stays.{writes}
 use Rattle.step.specs.Steps.{Machine, act_of, step_of}
 use Rattle.step.specs.declared.Act.{Act}
-use Rattle.step.specs.declared.Act.TheVariants as Act
 use Rattle.step.specs.declared.Flow.{Flow}
 use Rattle.step.specs.declared.Flow.TheVariants.{Next, Jump}
 use Rattle.run.specs.Run.{arrived, start_of}

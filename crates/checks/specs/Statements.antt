@@ -1,5 +1,5 @@
 -- Refusals 3, 4 and 5: one statement's variables, operands and sizes.
-use Rattle.std.specs.Prelude.{ℕ, ◌+◌, Bool, true, false, ◌&&◌, List, [], ◌∷◌, eqb, leb}
+use Rattle.std.specs.Prelude.{ℕ, ◌+◌, Bool, true, false, List, [], ◌∷◌, eqb, leb}
 use Rattle.pcode.specs.Var.{pick, zero_id, size_of, size_out, as_operand}
 use Rattle.pcode.specs.Rules.{meets, output_need, first_need, second_need, fits_rule, size_rule}
 use Rattle.pcode.specs.declared.var.VarNode.{VarNode}

@@ -1,15 +1,14 @@
 -- Numbers at a width inside 128 bits: cuts of cuts, masks, differences that wrap and that do not, order tests.
-use Prim.Native.Nat.{ℕ, zero, suc, ◌+◌, ◌*◌, ◌-◌, ◌/◌, ◌%◌, ◌^◌, ◌<◌, ◌≤◌, zero-le}
+use Prim.Native.Nat.{ℕ, ◌+◌, ◌*◌, ◌-◌, ◌/◌, ◌%◌, ◌^◌, ◌<◌, ◌≤◌, zero-le}
 use native.Mathlib.Omega.{arith}
-use native.Mathlib.Nat.{mod-add-mod, add-mod-mod, add-mod_right, mod-eq_of_lt, mod-eq-sub-mod, add_comm, mul_comm, mul-le-mul_left, le_of_mul-le-mul_left, sub-zero, div-le_self}
+use native.Mathlib.Nat.{mod-add-mod, add-mod_right, mod-eq_of_lt, mod-eq-sub-mod, sub-zero, div-le_self}
 use Rattle.pcode.specs.Var.{pick}
 use Rattle.meaning.specs.Meaning.{shift_right}
-use mathlib.Core.Path.{◌≡◌, refl, sym, ap, ◌∙◌, subst}
+use mathlib.Core.Path.{◌≡◌, refl, sym, ap, ◌∙◌}
 use mathlib.Core.Bool.{Bool, true, false, not}
-use mathlib.Core.Logic.{⊎_elim}
-use lib.Dec.{eqb, ltb, leb, lit<}
+use lib.Dec.{ltb, leb}
 use lib.Pow.{pow-add, pow_pos, mod-mod-pow, not_mod}
-use borrow.Author.Tests.{ltb-true, ltb-false, leb-true, le-leb, lt-leb, lt-ltb, le-ltb}
+use borrow.Author.Tests.{ltb-true, ltb-false, leb-true, le-leb, lt-leb}
 use Rattle.wide.specs.declared.Wide.{Wide}
 use Rattle.wide.specs.Value.{value_of}
 

@@ -8,9 +8,8 @@ use lib.ListN.{length, take, get_or}
 use Rattle.pcode.specs.Var.{least_id}
 use Rattle.pcode.specs.Block.{blank_stmt}
 use Rattle.pcode.specs.declared.var.VarId.{VarId}
-use Rattle.pcode.specs.declared.var.Operand.{Operand}
 use Rattle.pcode.specs.declared.block.Stmt.{Stmt}
-use Rattle.vars.specs.Vars.{ids_in, ids_of}
+use Rattle.vars.specs.Vars.{ids_of}
 use Rattle.const_prop.specs.Pass.{all_ids, least_from}
 
 -- of no ids, of one

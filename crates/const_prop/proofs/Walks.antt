@@ -1,12 +1,12 @@
 -- The walk's invariant: what is known, the result so far, and the rest that gives the whole. Assumes nothing.
-use Prim.Native.Nat.{ℕ, zero, suc, ◌+◌, ◌*◌, ◌-◌, ◌≤◌, ◌<◌}
+use Prim.Native.Nat.{ℕ, suc, ◌+◌, ◌*◌, ◌-◌, ◌≤◌, ◌<◌}
 use mathlib.Core.Path.{◌≡◌, refl, sym, ◌∙◌, ap, subst}
-use mathlib.Core.Bool.{Bool, true, false, not}
+use mathlib.Core.Bool.{Bool, true, false}
 use mathlib.Core.List.{List, [], ◌∷◌, ◌++◌, append_assoc, append-nil}
 use native.Mathlib.Numerals.{add-one}
 use native.Mathlib.Nat.{add-zero}
 use native.Mathlib.Omega.{arith}
-use lib.ListN.{length, take, drop, get_or, set, replicate, length-replicate, length-set, length-append, length-map, drop_of_length-le}
+use lib.ListN.{length, take, drop, get_or, set, length-replicate, length-set, length-append, length-map, drop_of_length-le}
 use lib.Seq.{drop-cons, length-take-le, take_at}
 use Rattle.pcode.specs.Block.{blank_stmt, blank_stmts}
 use Rattle.pcode.specs.declared.var.VarId.{VarId}

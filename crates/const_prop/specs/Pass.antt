@@ -6,7 +6,6 @@ use Rattle.pcode.specs.declared.var.VarId.{VarId}
 use Rattle.pcode.specs.declared.refusal.Refusal.{Refusal}
 use Rattle.pcode.specs.declared.refusal.Refusal.TheVariants as Refusals
 use Rattle.pcode.specs.declared.block.Stmt.{Stmt}
-use Rattle.pcode.specs.declared.block.Block.{Block}
 use Rattle.pcode.specs.declared.block.Marks.{Marks}
 use Rattle.vars.specs.Vars.{ids_of}
 use Rattle.vars.specs.declared.Vars.{Vars}

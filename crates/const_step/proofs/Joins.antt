@@ -1,6 +1,5 @@
 -- How the parts of one statement of the walk join. Assumes nothing.
-use Prim.Native.Nat.{ℕ}
-use mathlib.Core.Path.{◌≡◌, refl, sym, ◌∙◌, ap}
+use mathlib.Core.Path.{◌≡◌, sym, ◌∙◌, ap}
 use mathlib.Core.Bool.{Bool, true, false, ◌||◌}
 use Rattle.pcode.specs.Var.{pick}
 use Rattle.pcode.specs.declared.var.VarId.{VarId}
@@ -16,7 +15,7 @@ use Rattle.widen.specs.declared.widen.Made.{Made}
 use Rattle.simplify.specs.Simplify.{Change, change_of, simplify_of}
 use Rattle.simplify.specs.declared.Simplified.{Simplified}
 use Rattle.const_step.specs.Labels.{label_of}
-use Rattle.const_step.specs.Steps.{Step, at_label, at_other}
+use Rattle.const_step.specs.Steps.{at_label, at_other}
 
 -- a statement without a skip: what it comes to, then what it gives
 pub other_of : (vars : Vars) (l : VarId) (t : Turn) (st : Stmt) (s u : State) (x : Simplified) (m : Made) → change_of u x ≡ simplify_of vars t st s

@@ -1,17 +1,16 @@
 -- The labels that statements branch to, as the loops walk them. Assumes nothing.
-use Prim.Native.Nat.{ℕ, zero, suc, ◌+◌, ◌-◌, ◌≤◌, ◌<◌}
+use Prim.Native.Nat.{ℕ, zero, suc, ◌+◌, ◌≤◌, ◌<◌}
 use mathlib.Core.Path.{◌≡◌, refl, sym, ◌∙◌, ap}
-use mathlib.Core.Bool.{Bool, true, false, ◌||◌}
-use mathlib.Core.List.{List, [], ◌∷◌, ◌++◌, map}
+use mathlib.Core.Bool.{true, false}
+use mathlib.Core.List.{List, [], ◌∷◌, ◌++◌}
 use native.Mathlib.Numerals.{add-one}
 use native.Mathlib.Omega.{arith}
-use lib.Dec.{eqb}
 use lib.ListN.{length, take, drop, get_or, length-map, length-append, length-drop, drop_of_length-le, take-append-drop}
 use lib.Seq.{drop-cons, length-take-le, drop_at}
 use borrow.Author.Tests.{eq-eqb, ne_eqb}
 use Rattle.pcode.specs.Block.{blank_stmt}
 use Rattle.pcode.specs.declared.block.Stmt.{Stmt}
-use Rattle.bit_vec.proofs.Store.{Stored, place_turn}
+use Rattle.bit_vec.proofs.Store.{Stored}
 use Rattle.const_step.specs.Labels.{target_of, targets_of, has_target}
 
 -- a target that is the label's; another; no more targets

@@ -1,12 +1,12 @@
 -- What one statement of the walk keeps, and the shape of what it gives. Assumes nothing.
-use Prim.Native.Nat.{ℕ, zero, suc, ◌+◌, ◌*◌, ◌≤◌}
+use Prim.Native.Nat.{ℕ, zero, suc, ◌*◌}
 use mathlib.Core.Path.{◌≡◌, refl, sym, ◌∙◌, ap, subst}
 use mathlib.Core.Bool.{Bool, true, false}
 use mathlib.Core.List.{List}
 use native.Mathlib.Omega.{arith}
 use lib.Dec.{eqb}
 use lib.ListN.{length}
-use Rattle.pcode.specs.Var.{pick, same_id, below_id, same_label}
+use Rattle.pcode.specs.Var.{pick, same_id, below_id}
 use Rattle.pcode.specs.Rules.{side_effects}
 use Rattle.pcode.specs.Block.{blank_stmt}
 use Rattle.pcode.specs.declared.var.VarId.{VarId}
@@ -16,16 +16,14 @@ use Rattle.pcode.specs.declared.var.Output.{Output}
 use Rattle.pcode.specs.declared.var.Output.TheVariants as Out
 use Rattle.pcode.specs.declared.block.Stmt.{Stmt}
 use Rattle.vars.specs.declared.Vars.{Vars}
-use Rattle.const_eval.specs.declared.place.Place.{Place}
-use Rattle.const_eval.specs.Known.{Fit, Within}
-use Rattle.const_eval.specs.State.{State, first_use, cleared, forgotten, Good, Able}
-use Rattle.const_eval.proofs.Keeps.{Kept, same_kept, cleared_kept, forgotten_kept, good_within}
+use Rattle.const_eval.specs.Known.{Within}
+use Rattle.const_eval.specs.State.{State, first_use, cleared, forgotten, Good}
+use Rattle.const_eval.proofs.Keeps.{cleared_kept, forgotten_kept}
 use Rattle.uses.specs.Operands.{operand_bits, place_of, InOperand}
 use Rattle.settle.specs.declared.Outcome.{Outcome}
-use Rattle.settle.specs.declared.Outcome.TheVariants as Outcome
 use Rattle.settle.specs.Settle.{settled_of}
 use Rattle.widen.specs.Simple.{jump_of, exit_of}
-use Rattle.widen.specs.Widen.{nothing_m, one_m, two_m, refused_m, widened_of, kept_of, stays_of, made_of, InRows, InSimple}
+use Rattle.widen.specs.Widen.{one_m, two_m, refused_m, widened_of, kept_of, stays_of, made_of, InRows, InSimple}
 use Rattle.bit_vec.specs.Lists.{bits}
 use Rattle.bit_vec.specs.Known.{const_of}
 use Rattle.bit_vec.specs.declared.known.Constant.{Constant}
@@ -38,10 +36,10 @@ use Rattle.widen.specs.declared.widen.Skip.{Skip}
 use Rattle.widen.specs.declared.widen.Skip.TheVariants as Skips
 use Rattle.widen.specs.declared.widen.Why.{Why}
 use Rattle.widen.specs.declared.widen.Made.{Made}
-use Rattle.simplify.specs.Simplify.{simple_by, plain_of, hook_of, write_of, turned, simplify_of, used_both, replaced_of, InOutput, Apt}
-use Rattle.simplify.proofs.Grows.{Grown, grown_on, grown_more, kept_grown, simplify_grown, able_le, able_grown}
+use Rattle.simplify.specs.Simplify.{simple_by, plain_of, hook_of, turned, simplify_of, used_both, replaced_of, InOutput, Apt}
+use Rattle.simplify.proofs.Grows.{Grown, grown_on, grown_more, simplify_grown, able_grown}
 use Rattle.const_step.specs.Labels.{reached_by, arrives_of, kept_label, label_of, end_of}
-use Rattle.const_step.specs.Steps.{Step, at_label, at_other, step_by}
+use Rattle.const_step.specs.Steps.{at_other, step_by}
 
 -- what a step gives: nothing, one statement or two, blank where there is none
 pub data Shaped : Made → Type 0 where

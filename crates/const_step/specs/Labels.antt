@@ -1,5 +1,5 @@
 -- Which labels are kept, and what a label and a skip give.
-use Rattle.std.specs.Prelude.{ℕ, ◌+◌, Bool, true, false, ◌||◌, List, [], ◌∷◌, map, eqb}
+use Rattle.std.specs.Prelude.{ℕ, ◌+◌, Bool, false, ◌||◌, List, [], ◌∷◌, map, eqb}
 use Rattle.pcode.specs.Var.{pick, same_label}
 use Rattle.pcode.specs.Block.{stmt_of}
 use Rattle.pcode.specs.declared.var.PcodeLabel.{PcodeLabel}

@@ -1,23 +1,22 @@
 -- From rows to ids: what a statement's parts are at the row of an id.
-use Prim.Native.Nat.{ℕ, zero, suc, ◌+◌, ◌≤◌, ◌<◌}
+use Prim.Native.Nat.{ℕ, ◌≤◌, ◌<◌}
 use native.Mathlib.Omega.{arith}
-use mathlib.Core.Path.{◌≡◌, refl, sym, ap, ◌∙◌, subst}
-use mathlib.Core.Bool.{Bool, true, false, not, ◌&&◌, ◌||◌}
+use mathlib.Core.Path.{◌≡◌, refl, sym, ap, ◌∙◌}
+use mathlib.Core.Bool.{Bool, true, false, ◌&&◌}
 use mathlib.Core.List.{List, [], ◌∷◌, ◌++◌}
 use lib.Dec.{eqb}
-use lib.ListN.{length, get_or}
-use borrow.Author.Tests.{eqb-true, eqb-false, eq-eqb, ne_eqb, leb-true, leb-false}
+use lib.ListN.{length}
+use borrow.Author.Tests.{eqb-true, eq-eqb}
 use Rattle.pcode.specs.Var.{same_id, as_operand}
 use Rattle.pcode.specs.Block.{has_id}
 use Rattle.pcode.specs.declared.var.VarId.{VarId}
-use Rattle.pcode.specs.declared.var.VarNode.{VarNode}
 use Rattle.pcode.specs.declared.var.Operand.{Operand}
 use Rattle.pcode.specs.declared.var.Operand.TheVariants.{None, Const, Var}
 use Rattle.pcode.specs.declared.block.Stmt.{Stmt}
 use Rattle.pcode.proofs.Ids.{same_id_true, same_id_refl}
 use Rattle.vars.specs.Vars.{ids_in, ids_of, row_of}
 use Rattle.vars.proofs.Rows.{ways, has_here, row_apart, row_below}
-use Rattle.live_bytes.specs.Bytes.{inside, between, end_of}
+use Rattle.live_bytes.specs.Bytes.{inside}
 use Rattle.live_tables.specs.Rows.{is_var, part_of, no_part, row_in}
 use Rattle.dead_store.specs.Stays.{names, names_id}
 use Rattle.live_tables.specs.Tables.{at}

@@ -1,15 +1,14 @@
 -- The scan from the front for ids read before any write since the last label.
 use Prim.Native.Nat.{ℕ, zero, suc, ◌+◌, ◌≤◌, ◌<◌}
-use native.Mathlib.Numerals.{add-one}
 use native.Mathlib.Omega.{arith}
-use mathlib.Core.Path.{◌≡◌, refl, sym, ap, ◌∙◌, subst}
+use mathlib.Core.Path.{◌≡◌, refl, sym, ap, ◌∙◌}
 use mathlib.Core.Bool.{Bool, true, false, not, ◌&&◌, ◌||◌}
 use mathlib.Core.List.{List, [], ◌∷◌}
 use lib.Dec.{eqb}
-use lib.ListN.{length, get_or, take, drop, replicate, drop_of_length-le}
-use lib.Seq.{drop-cons, get_or-take}
-use Rattle.pcode.specs.Var.{pick, as_operand}
-use Rattle.pcode.specs.Block.{has_id, blank_stmt, lasting}
+use lib.ListN.{length, get_or, drop, replicate, drop_of_length-le}
+use lib.Seq.{get_or-take}
+use Rattle.pcode.specs.Var.{as_operand}
+use Rattle.pcode.specs.Block.{has_id, lasting}
 use Rattle.pcode.specs.declared.var.VarId.{VarId}
 use Rattle.pcode.specs.declared.block.Stmt.{Stmt}
 use Rattle.pcode.specs.declared.block.Marks.{Marks}

@@ -6,7 +6,7 @@ use mathlib.Core.Path.{◌≡◌, refl, sym, ap, ◌∙◌}
 use mathlib.Core.Bool.{Bool, true, false}
 use mathlib.Core.List.{List, [], ◌∷◌, ◌++◌, append-nil}
 use lib.ListN.{length, get_or, set, take, drop, length-append}
-use Rattle.dead_store.specs.Stays.{Judged, judge, dead_of, without}
+use Rattle.dead_store.specs.Stays.{judge, dead_of, without}
 use Rattle.pcode.specs.Block.{blank_stmts}
 use Rattle.vars.proofs.Joining.{put_more}
 use Rattle.pcode.specs.declared.var.VarId.{VarId}

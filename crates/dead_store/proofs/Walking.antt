@@ -1,12 +1,12 @@
 -- The walk keeps exactly the statements that stay: the tables say which bytes are overwritten, needed, and read later.
-use Prim.Native.Nat.{ℕ, zero, suc, ◌+◌, ◌-◌, ◌≤◌, ◌<◌}
+use Prim.Native.Nat.{ℕ, zero, suc, ◌≤◌, ◌<◌}
 use native.Mathlib.Omega.{arith}
 use mathlib.Core.Path.{◌≡◌, refl, sym, ap, ◌∙◌, subst}
 use mathlib.Core.Bool.{Bool, true, false, not, ◌&&◌, ◌||◌}
 use mathlib.Core.List.{List, [], ◌∷◌, ◌++◌}
 use lib.ListN.{length, get_or, set, take, drop, replicate, drop_of_length-le, take-append-drop}
 use lib.Seq.{drop-cons, take-suc, append_snoc, set_at, length-take-le}
-use Rattle.pcode.specs.Var.{pick, as_operand}
+use Rattle.pcode.specs.Var.{as_operand}
 use Rattle.pcode.specs.Rules.{side_effects}
 use Rattle.pcode.specs.Block.{has_id, blank_stmt}
 use Rattle.pcode.specs.declared.var.VarId.{VarId}
@@ -15,7 +15,6 @@ use Rattle.pcode.specs.declared.var.Output.TheVariants as Out
 use Rattle.pcode.specs.declared.op.CallOp.{CallOp}
 use Rattle.pcode.specs.declared.op.CallOp.TheVariants.{Arg, PcodeOp, Hook, HookIf, TracerLoad, TracerStore}
 use Rattle.pcode.specs.declared.op.Op.{Op}
-use Rattle.pcode.specs.declared.op.Op.TheVariants as Op
 use Rattle.pcode.specs.declared.block.Stmt.{Stmt}
 use Rattle.pcode.proofs.Ids.{same_id_refl}
 use Rattle.vars.specs.Vars.{ids_of, row_of}
@@ -24,9 +23,9 @@ use Rattle.live_tables.specs.declared.rows.Edge.{Edge}
 use Rattle.live_tables.specs.declared.rows.Edge.TheVariants.{Inside, Branch, Label, Marker}
 use Rattle.live_tables.specs.declared.rows.Rows.{Rows}
 use Rattle.live_bytes.specs.Bytes.{has, inside, some_byte}
-use Rattle.live_tables.specs.Rows.{edge_of, ends, is_marker, part_of, row_in, rows_of, RowsAre, Named, no_row}
-use Rattle.dead_store.specs.Stays.{Judged, names, reads, writes, overwritten, read_next, rewritten, read_later, needed, writes_some, stays, judged, judge, dead_of}
-use Rattle.live_tables.specs.Tables.{view, at, TableIs, reads_over, across_over, Stepped, no_sets}
+use Rattle.live_tables.specs.Rows.{edge_of, ends, is_marker, part_of, row_in, rows_of, Named}
+use Rattle.dead_store.specs.Stays.{Judged, names, writes, overwritten, read_next, rewritten, read_later, needed, writes_some, stays, judged, judge, dead_of}
+use Rattle.live_tables.specs.Tables.{view, reads_over, across_over, Stepped, no_sets}
 use Rattle.live_bytes.proofs.Bits.{has_zero}
 use Rattle.live_bytes.proofs.Runs.{any_none, any_same}
 use Rattle.dead_store.proofs.Places.{Among, output_among, first_among, second_among, no_bytes, names_at, row_small}

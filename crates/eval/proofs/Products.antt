@@ -1,5 +1,5 @@
 -- Laws of multiplication: the product of halves, a number cut twice, and the ways by the known operand's ones. Assumes nothing.
-use Rattle.std.proofs.Common.{◌≡◌, ℕ, zero, suc, ◌+◌, ◌-◌, ◌*◌, ◌/◌, ◌%◌, ◌^◌, ◌<◌, ◌≤◌, Bool, true, false, leb, List, [], ◌∷◌, length, replicate, sym, refl, ap, ◌∙◌, lt_of_le_of_lt, le_of_lt, mul_assoc, add-mul, mul-le-mul_left, mul-lt-mul_of_pos_right, mul-add, mul_left_comm, arith, pow_pos, pow-add, leb-true}
+use Rattle.std.proofs.Common.{◌≡◌, ℕ, zero, suc, ◌+◌, ◌*◌, ◌/◌, ◌%◌, ◌^◌, ◌<◌, ◌≤◌, Bool, true, false, leb, List, [], ◌∷◌, length, replicate, sym, refl, ap, ◌∙◌, lt_of_le_of_lt, le_of_lt, mul_assoc, add-mul, mul-le-mul_left, mul-lt-mul_of_pos_right, mul-add, mul_left_comm, arith, pow_pos, pow-add, leb-true}
 use mathlib.Core.Path.{subst⁻¹}
 use native.Mathlib.Nat.{add-mod, add-mul-mod_self_left}
 use lib.Pow.{mod-mod-pow, field}

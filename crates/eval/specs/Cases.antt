@@ -6,7 +6,7 @@ use Rattle.bit.specs.declared.Bit.{Bit}
 use Rattle.bit.specs.declared.Bit.TheVariants.{Zero, One, Unknown, Expr as Sym}
 use Rattle.bit_vec.specs.declared.known.Constant.TheVariants.{Open}
 use Rattle.bit_vec.specs.Moves.{digits}
-use Rattle.bit_vec.specs.Known.{const_of, least}
+use Rattle.bit_vec.specs.Known.{const_of}
 use Rattle.pcode.specs.declared.op.Op.{Op}
 use Rattle.pcode.specs.declared.op.Op.TheVariants.{Shift, Rotate, Compare, Bool as BoolOf}
 use Rattle.pcode.specs.declared.op.ShiftOp.TheVariants.{IntLeft}

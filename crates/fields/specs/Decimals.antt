@@ -1,5 +1,5 @@
 -- Decimals: digits without leading zeros, up to a limit.
-use Rattle.std.specs.Prelude.{ℕ, ◌+◌, ◌*◌, ◌-◌, List, [], ◌∷◌, eqb, leb, ltb, length, get_or}
+use Rattle.std.specs.Prelude.{ℕ, ◌+◌, ◌*◌, ◌-◌, List, [], ◌∷◌, eqb, leb, ltb}
 use Rattle.pcode.specs.Var.{pick}
 use Rattle.fields.specs.declared.decimal.Parsed.{Parsed}
 use Rattle.fields.specs.declared.decimal.Parsed.TheVariants.{Bad, Value}

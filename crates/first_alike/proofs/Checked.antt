@@ -1,5 +1,5 @@
 -- The first pass's half of demand 3, of a block that passes the first pass's checks and that refusal 16 does not meet.
-use Prim.Native.Nat.{ℕ, zero, suc, ◌+◌, ◌≤◌}
+use Prim.Native.Nat.{ℕ, ◌+◌, ◌≤◌}
 use native.Mathlib.Omega.{arith}
 use mathlib.Core.Path.{◌≡◌, refl, sym, subst}
 use mathlib.Core.Bool.{Bool, true, false, true≢false}
@@ -13,15 +13,12 @@ use Rattle.pcode.specs.declared.var.VarId.{VarId}
 use Rattle.pcode.specs.declared.block.Stmt.{Stmt}
 use Rattle.pcode.specs.declared.block.Block.{Block}
 use Rattle.pcode.specs.declared.block.Marks.{Marks}
-use Rattle.pcode.specs.declared.refusal.Refusal.{Refusal}
-use Rattle.vars.specs.Vars.{ids_of, join_ids, vars_from, vars_of, over_from, too_many, held_ids, named_of}
+use Rattle.vars.specs.Vars.{vars_of, held_ids, named_of}
 use Rattle.vars.specs.declared.Vars.{Vars}
 use Rattle.vars.proofs.Joining.{named_held}
-use Rattle.text.specs.declared.answer.Answer.{Answer}
-use Rattle.text.specs.declared.answer.Answer.TheVariants.{Ok, Refused}
-use Rattle.checks.specs.Statements.{good_parts, met_needs, good_sizes, stmt_check, else_then, checks_from}
-use Rattle.checks.specs.Labels.{labels_from}
-use Rattle.checks.specs.Checks.{variables, check_of}
+use Rattle.text.specs.declared.answer.Answer.TheVariants.{Ok}
+use Rattle.checks.specs.Statements.{stmt_check, checks_from}
+use Rattle.checks.specs.Checks.{check_of}
 use Rattle.checks.proofs.Passing.{Good, both_ok, good, passing}
 use Rattle.machine.specs.Class.{own_class, in_class, backward, outside, first_outside}
 use Rattle.const_prop.specs.Pass.{propagated_of}

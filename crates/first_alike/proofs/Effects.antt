@@ -23,7 +23,6 @@ use Rattle.pcode.specs.declared.block.Marks.{Marks}
 use Rattle.meaning.specs.Meaning.{meaning}
 use Rattle.step.specs.Steps.{act_of, answer_at, loads_after, flow_of}
 use Rattle.step.specs.declared.Act.{Act}
-use Rattle.step.specs.declared.Act.TheVariants as Act
 use Rattle.step.specs.declared.Flow.{Flow}
 use Rattle.step.specs.declared.Flow.TheVariants.{Next}
 use Rattle.widen.specs.Widen.{lowest, added_of}

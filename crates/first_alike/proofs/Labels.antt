@@ -10,7 +10,6 @@ use Rattle.pcode.specs.Block.{stmt_of}
 use Rattle.pcode.specs.declared.var.VarId.{VarId}
 use Rattle.pcode.specs.declared.var.PcodeLabel.{PcodeLabel}
 use Rattle.pcode.specs.declared.var.Operand.{Operand}
-use Rattle.pcode.specs.declared.var.Operand.TheVariants.{None}
 use Rattle.pcode.specs.declared.var.Output.TheVariants as Out
 use Rattle.pcode.specs.declared.op.Op.{Op}
 use Rattle.pcode.specs.declared.op.Op.TheVariants as Ops

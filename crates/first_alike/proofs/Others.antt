@@ -46,8 +46,7 @@ use Rattle.const_prop.specs.Pass.{stmts_of, temporary_flags}
 use Rattle.machine.specs.Class.{own_class, in_class}
 use Rattle.step.specs.Steps.{act_of, answer_at}
 use Rattle.step.specs.declared.Act.{Act}
-use Rattle.step.specs.declared.Act.TheVariants as Act
-use Rattle.step.specs.declared.Flow.TheVariants.{Next, Jump}
+use Rattle.step.specs.declared.Flow.TheVariants.{Next}
 use Rattle.sound.specs.Sound.{computes}
 use Rattle.alike.proofs.Fits.{Quiet}
 use Rattle.alike.proofs.Havoc.{State, Set, value_by, put_by, result_by, mixed, Holding}

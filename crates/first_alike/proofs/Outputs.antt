@@ -24,7 +24,6 @@ use Rattle.vars.specs.declared.Vars.{Vars}
 use Rattle.vars.proofs.Rows.{ways}
 use Rattle.step.specs.Steps.{act_of}
 use Rattle.step.specs.declared.Act.{Act}
-use Rattle.step.specs.declared.Act.TheVariants as Act
 use Rattle.uses.specs.Operands.{place_of}
 use Rattle.widen.specs.Widen.{one_m, two_m, refused_m, widened_of, lowest, copied_at, copied_of, added_of, kept_of, made_of}
 use Rattle.widen.specs.declared.simple.Simple.{Simple}

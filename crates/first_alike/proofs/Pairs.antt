@@ -21,7 +21,6 @@ use Rattle.live_bytes.specs.Bytes.{inside}
 use Rattle.meaning.specs.Meaning.{meaning}
 use Rattle.step.specs.Steps.{act_of, loads_after, flow_of}
 use Rattle.step.specs.declared.Act.{Act}
-use Rattle.step.specs.declared.Act.TheVariants as Act
 use Rattle.step.specs.declared.Flow.TheVariants.{Next}
 use Rattle.alike.proofs.Fits.{InRow}
 use Rattle.alike.proofs.Havoc.{State, Set, value_by, result_by, mixed, view, Sight, sights_of, Temps, temps_after, bytes_after, Holding, holding, also, reached, rough, run_by}

@@ -15,7 +15,7 @@ use Rattle.pcode.specs.Rules.{size_rule}
 use Rattle.pcode.specs.declared.var.VarId.{VarId}
 use Rattle.pcode.specs.declared.var.VarNode.{VarNode}
 use Rattle.pcode.specs.declared.var.Operand.{Operand}
-use Rattle.pcode.specs.declared.var.Operand.TheVariants.{Const, Var}
+use Rattle.pcode.specs.declared.var.Operand.TheVariants.{Const}
 use Rattle.pcode.specs.declared.var.Output.TheVariants as Out
 use Rattle.pcode.specs.declared.op.Op.{Op}
 use Rattle.pcode.specs.declared.op.Op.TheVariants.{Load}

@@ -33,7 +33,6 @@ use Rattle.widen.specs.declared.widen.Skip.TheVariants as Skips
 use Rattle.const_step.specs.Labels.{target_of, targets_of, has_target}
 use Rattle.step.specs.Steps.{act_of, flow_of}
 use Rattle.step.specs.declared.Act.{Act}
-use Rattle.step.specs.declared.Act.TheVariants as Act
 use Rattle.step.specs.declared.Flow.{Flow}
 use Rattle.step.specs.declared.Flow.TheVariants.{Next, Jump}
 use Rattle.alike.proofs.Havoc.{State, value_by, put_by, view, Sight, taken, Holding, rough, run_by}

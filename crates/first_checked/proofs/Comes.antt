@@ -12,7 +12,6 @@ use Rattle.pcode.specs.declared.var.VarId.{VarId}
 use Rattle.pcode.specs.declared.var.VarNode.{VarNode}
 use Rattle.pcode.specs.declared.var.PcodeLabel.{PcodeLabel}
 use Rattle.pcode.specs.declared.var.Operand.{Operand}
-use Rattle.pcode.specs.declared.var.Operand.TheVariants.{None, Var}
 use Rattle.pcode.specs.declared.var.Output.{Output}
 use Rattle.pcode.specs.declared.var.Output.TheVariants as Out
 use Rattle.pcode.specs.declared.op.CallOp.{CallOp}
@@ -37,7 +36,6 @@ use Rattle.const_eval.specs.Known.{part_of, same_codes, Within}
 use Rattle.const_eval.specs.State.{State, first_use}
 use Rattle.const_eval.proofs.Codes.{same_sound}
 use Rattle.settle.specs.declared.Outcome.{Outcome}
-use Rattle.settle.specs.declared.Outcome.TheVariants as Outcome
 use Rattle.settle.specs.Settle.{named, source_of, decide_by, decide_of, settled_by, settled_of}
 use Rattle.settle.proofs.Settles.{value_length}
 use Rattle.uses.specs.Operands.{place_of, operand_bits}

@@ -3,20 +3,18 @@ use Prim.Native.Nat.{ℕ, ◌*◌, ◌≤◌}
 use mathlib.Core.Path.{◌≡◌, refl, sym, ◌∙◌, ap, subst}
 use mathlib.Core.List.{List, []}
 use native.Mathlib.Omega.{arith}
-use lib.ListN.{length, take, length-take}
-use borrow.Author.Tests.{ltb-false}
+use lib.ListN.{length, take}
 use Rattle.pcode.specs.Block.{held, has_id, first_limits}
 use Rattle.pcode.specs.declared.var.VarId.{VarId}
 use Rattle.pcode.specs.declared.block.Stmt.{Stmt}
 use Rattle.pcode.specs.declared.block.Block.{Block}
 use Rattle.pcode.specs.declared.block.Marks.{Marks}
-use Rattle.vars.specs.Vars.{vars_of, too_many, held_ids, named_of}
+use Rattle.vars.specs.Vars.{vars_of, held_ids, named_of}
 use Rattle.vars.specs.declared.Vars.{Vars}
 use Rattle.vars.proofs.Joining.{named_held}
 use Rattle.text.specs.declared.answer.Answer.TheVariants.{Ok}
-use Rattle.checks.specs.Statements.{else_then, checks_from}
-use Rattle.checks.specs.Labels.{good_label, labels_from}
-use Rattle.checks.specs.Checks.{variables, check_of}
+use Rattle.checks.specs.Labels.{good_label}
+use Rattle.checks.specs.Checks.{check_of}
 use Rattle.checks.proofs.Passing.{passing}
 use Rattle.widen.specs.declared.widen.Skip.TheVariants as Skips
 use Rattle.const_prop.specs.Pass.{start_walk, temporary_flags}

@@ -9,7 +9,6 @@ use Rattle.pcode.specs.declared.var.VarId.{VarId}
 use Rattle.pcode.specs.declared.var.PcodeLabel.{PcodeLabel as Label}
 use Rattle.pcode.specs.declared.op.OneOp.{OneOp}
 use Rattle.pcode.specs.declared.op.Op.{Op}
-use Rattle.pcode.specs.declared.op.Op.TheVariants as Op
 use Rattle.pcode.specs.declared.block.Stmt.{Stmt}
 use Rattle.pcode.specs.declared.block.Block.{Block}
 use Rattle.pcode.specs.declared.block.Marks.{Marks}

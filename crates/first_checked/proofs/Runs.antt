@@ -1,5 +1,4 @@
 -- Where refusal 16 does not meet the block, it does not meet what the first pass gives: the same operations, and no branch upwards.
-use Prim.Native.Nat.{◌+◌}
 use mathlib.Core.Path.{◌≡◌, refl, sym, ◌∙◌, ap, subst}
 use mathlib.Core.Bool.{Bool, true, false, not, true≢false}
 use mathlib.Core.List.{List, [], ◌∷◌, ◌++◌}
@@ -13,7 +12,6 @@ use Rattle.pcode.specs.declared.var.VarId.{VarId}
 use Rattle.pcode.specs.declared.var.PcodeLabel.{PcodeLabel as Label}
 use Rattle.pcode.specs.declared.op.OneOp.{OneOp}
 use Rattle.pcode.specs.declared.op.Op.{Op}
-use Rattle.pcode.specs.declared.op.Op.TheVariants as Op
 use Rattle.pcode.specs.declared.block.Stmt.{Stmt}
 use Rattle.pcode.specs.declared.block.Block.{Block}
 use Rattle.pcode.specs.declared.block.Marks.{Marks}

@@ -1,9 +1,8 @@
 -- How reading, treating and printing join; every file of bytes gets an end. Assumes nothing.
 use Prim.Native.Nat.{ℕ}
-use mathlib.Core.Path.{◌≡◌, refl, sym, ◌∙◌, ap, subst}
+use mathlib.Core.Path.{◌≡◌, sym, ◌∙◌, ap, subst}
 use mathlib.Core.List.{List}
 use Rattle.pcode.specs.declared.block.Block.{Block}
-use Rattle.pcode.specs.declared.block.Marks.{Marks}
 use Rattle.pcode.specs.declared.refusal.Refusal.{Refusal}
 use Rattle.text.specs.Reading.{read_of}
 use Rattle.text.specs.declared.answer.Answer.{Answer}
@@ -11,7 +10,6 @@ use Rattle.text.specs.declared.answer.Answer.TheVariants.{Ok, Refused}
 use Rattle.text.specs.declared.answer.Read.{Read}
 use Rattle.print.specs.Printing.{Print}
 use Rattle.print.specs.declared.print.Printed.{Printed}
-use Rattle.optimizer.specs.declared.second.Treated.{Treated}
 use Rattle.front.specs.Front.{Told, limit_of, end_by, end_of, told_block, told_refusal, told_by, answer_of}
 use Rattle.front.specs.declared.Pass.{Pass}
 

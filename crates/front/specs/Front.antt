@@ -7,7 +7,6 @@ use Rattle.pcode.specs.declared.refusal.Refusal.{Refusal}
 use Rattle.text.specs.Reading.{read_room, read_of}
 use Rattle.text.specs.declared.answer.Answer.{Answer}
 use Rattle.text.specs.declared.answer.Answer.TheVariants.{Ok, Refused}
-use Rattle.text.specs.declared.answer.Read.{Read}
 use Rattle.print.specs.Rooms.{record_room, refusal_room}
 use Rattle.print.specs.Printing.{printed, refusal_text}
 use Rattle.optimizer.specs.First.{first_of}

@@ -1,14 +1,14 @@
 -- The bytes of a set: of a union, with one byte more or less; and sets with the same bytes are the same.
 use Prim.Native.Nat.{ℕ, zero, suc, ◌+◌, ◌*◌, ◌/◌, ◌%◌, ◌^◌, ◌≤◌, ◌<◌, max}
-use native.Mathlib.Nat.{one-mul, mod-eq_of_lt, div-eq_of_lt, div_self, div-one, pow-suc, mul-div-mul_right, div-add-mod'}
+use native.Mathlib.Nat.{one-mul, mod-eq_of_lt, div-eq_of_lt, div_self, div-one, pow-suc, mul-div-mul_right}
 use native.Mathlib.Omega.{arith}
-use mathlib.Core.Path.{◌≡◌, refl, sym, ap, ap₂, subst, ◌∙◌}
+use mathlib.Core.Path.{◌≡◌, refl, sym, ap, ◌∙◌}
 use mathlib.Core.Bool.{Bool, true, false, not, ◌&&◌, ◌||◌}
 use lib.Arith.{digits_mod}
 use lib.Bits.{bit_or, bit_xor, differ, or_step, xor_step, or_shr, xor_shr}
 use lib.Pow.{pow-lt, pow_pos, shr-shr}
 use lib.Dec.{eqb, lit<}
-use borrow.Author.Tests.{eqb-true, eqb-false, eq-eqb, ne_eqb}
+use borrow.Author.Tests.{eqb-true, eqb-false, eq-eqb}
 use Rattle.vars.proofs.Rows.{ways}
 use Rattle.live_bytes.specs.Bytes.{has, holds, with_byte, without_byte}
 

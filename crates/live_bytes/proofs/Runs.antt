@@ -4,11 +4,11 @@ use native.Mathlib.Omega.{arith}
 use mathlib.Core.Path.{◌≡◌, refl, sym, ap, ◌∙◌}
 use mathlib.Core.Bool.{Bool, true, false, not, ◌&&◌, ◌||◌}
 use lib.Dec.{eqb, leb, ltb}
-use borrow.Author.Tests.{eqb-true, eqb-false, eq-eqb, ne_eqb, lt-ltb, le-ltb, le-leb, lt-leb, ltb-true, ltb-false, leb-true, leb-false}
+use borrow.Author.Tests.{eqb-true, eqb-false, lt-ltb, le-ltb, le-leb, lt-leb, ltb-true, ltb-false, leb-true, leb-false}
 use Rattle.pcode.specs.declared.var.VarNode.{VarNode}
 use Rattle.vars.proofs.Rows.{ways}
 use Rattle.live_bytes.specs.Bytes.{has, between, end_of, inside, holds, any_below, some_byte, with_byte, without_byte, live_in}
-use Rattle.live_bytes.proofs.Bits.{has_with, has_without, has_zero, same_bytes}
+use Rattle.live_bytes.proofs.Bits.{has_with, has_without, same_bytes}
 
 pub end_small : (v : VarNode) → end_of v ≤ 16
 end_small v = ways (ltb (v.offset + v.size) 16) (λ e. let h = ltb-true (v.offset + v.size) 16 e in rw e (omega arith)) (λ e. rw e (omega arith))

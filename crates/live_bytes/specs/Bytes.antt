@@ -1,5 +1,5 @@
 -- Sets of a variable's 16 bytes as numbers: bit k says whether byte k is in.
-use Rattle.std.specs.Prelude.{ℕ, zero, suc, ◌+◌, ◌/◌, ◌%◌, ◌^◌, ◌≡◌, Bool, true, false, not, ◌&&◌, ◌||◌, eqb, leb, ltb}
+use Rattle.std.specs.Prelude.{ℕ, zero, suc, ◌+◌, ◌/◌, ◌%◌, ◌^◌, ◌≡◌, Bool, false, not, ◌&&◌, ◌||◌, eqb, leb, ltb}
 use Rattle.std.specs.Int.Bits.{bit_or, bit_xor}
 use Rattle.pcode.specs.Var.{pick}
 use Rattle.pcode.specs.declared.var.VarNode.{VarNode}

@@ -1,14 +1,13 @@
 -- A table after a change in one row, and after the end of a stretch.
-use Prim.Native.Nat.{ℕ, zero, suc, ◌+◌, ◌≤◌, ◌<◌}
+use Prim.Native.Nat.{ℕ, ◌≤◌, ◌<◌}
 use native.Mathlib.Omega.{arith}
 use mathlib.Core.Path.{◌≡◌, refl, sym, ap, ◌∙◌}
 use mathlib.Core.Bool.{Bool, true, false, not, ◌&&◌, ◌||◌}
 use mathlib.Core.List.{List}
 use lib.Dec.{eqb}
-use lib.Bits.{bit_or}
 use lib.ListN.{length, get_or, set, length-set, get_or-eq_default}
 use lib.Seq.{get_or-set_same, get_or-set_other}
-use borrow.Author.Tests.{eqb-true, eqb-false, eq-eqb, ne_eqb}
+use borrow.Author.Tests.{eqb-true, eqb-false, ne_eqb}
 use Rattle.pcode.specs.declared.var.VarNode.{VarNode}
 use Rattle.vars.proofs.Rows.{ways}
 use Rattle.live_bytes.specs.Bytes.{has, inside, holds, live_in}

@@ -3,7 +3,7 @@ use Prim.Native.Nat.{ℕ, ◌<◌}
 use mathlib.Core.Path.{◌≡◌, refl, sym, ap, ◌∙◌, subst}
 use mathlib.Core.Bool.{Bool, true, false, not, ◌&&◌, ◌||◌}
 use mathlib.Core.List.{List}
-use lib.ListN.{length, get_or}
+use lib.ListN.{length}
 use Rattle.pcode.specs.Var.{as_operand}
 use Rattle.pcode.specs.Rules.{side_effects}
 use Rattle.pcode.specs.declared.var.VarNode.{VarNode}
@@ -11,9 +11,8 @@ use Rattle.pcode.specs.declared.block.Stmt.{Stmt}
 use Rattle.live_tables.specs.declared.rows.Edge.{Edge}
 use Rattle.live_tables.specs.declared.rows.Edge.TheVariants.{Inside, Branch, Label, Marker}
 use Rattle.live_tables.specs.declared.rows.Rows.{Rows}
-use Rattle.live_bytes.specs.Bytes.{has, inside}
 use Rattle.live_tables.specs.Rows.{edge_of, ends, part_of}
-use Rattle.live_tables.specs.Tables.{view, at, TableIs, Long, Ended, Bounded, reads_over, across_over, stays_at, stays_over, Stepped}
+use Rattle.live_tables.specs.Tables.{view, at, TableIs, Long, Ended, Bounded, stays_at, stays_over, Stepped}
 use Rattle.live_bytes.proofs.Runs.{any_same}
 
 -- the tables at an edge

@@ -1,5 +1,5 @@
 -- What the tables hold, row by row and byte by byte, after each step of the walk.
-use Rattle.std.specs.Prelude.{ℕ, ◌<◌, ◌≤◌, ◌≡◌, Bool, true, false, not, ◌&&◌, ◌||◌, List, eqb, length, get_or, replicate}
+use Rattle.std.specs.Prelude.{ℕ, ◌<◌, ◌≡◌, Bool, false, not, ◌&&◌, ◌||◌, List, eqb, length, get_or, replicate}
 use Rattle.std.specs.Int.Bits.{bit_or}
 use Rattle.pcode.specs.Var.{pick, as_operand}
 use Rattle.pcode.specs.Rules.{side_effects}

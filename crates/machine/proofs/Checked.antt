@@ -1,15 +1,15 @@
 -- A checked statement of the run class meets what the evaluator asks.
-use Prim.Native.Nat.{ℕ, zero, suc, ◌+◌, ◌*◌, ◌%◌, ◌^◌, ◌<◌, ◌≤◌}
+use Prim.Native.Nat.{ℕ, zero, suc, ◌+◌, ◌*◌, ◌^◌, ◌<◌, ◌≤◌}
 use native.Mathlib.Omega.{arith}
-use native.Mathlib.Nat.{mod-lt, mul-suc, pow-succ', lt_of_lt_of_le}
+use native.Mathlib.Nat.{mod-lt, mul-suc, pow-succ'}
 use mathlib.Core.Path.{◌≡◌, refl, sym, ap, ◌∙◌, subst}
 use mathlib.Core.Bool.{Bool, true, false, ◌&&◌, true≢false}
-use mathlib.Core.List.{List, [], ◌∷◌}
+use mathlib.Core.List.{List, []}
 use lib.Dec.{eqb, leb, lit<, eqb-suc-zero}
 use lib.ListN.{take, drop, get_or}
 use lib.Seq.{get_or-drop}
-use lib.Pow.{pow-add, pow_pos, pow_mono}
-use borrow.Author.Tests.{eqb-true, eqb-false, leb-true}
+use lib.Pow.{pow-add, pow_pos}
+use borrow.Author.Tests.{eqb-true, leb-true}
 use Rattle.pcode.specs.Var.{pick, zero_id, size_of}
 use Rattle.pcode.specs.Rules.{fits_rule, size_rule, sizes_one, meets, first_need, second_need}
 use Rattle.pcode.specs.declared.var.VarId.{VarId}

@@ -1,11 +1,11 @@
 -- Worked examples of what an operation means, computed: the drive's position past 32,767 among them.
-use Rattle.std.specs.Prelude.{ℕ, ◌≡◌, refl}
+use Rattle.std.specs.Prelude.{◌≡◌, refl}
 use Rattle.pcode.specs.declared.op.OneOp.TheVariants.{SignExtend, IntNegate, IntCountLeadingZeroes}
 use Rattle.pcode.specs.declared.op.TwoOp.TheVariants.{IntAdd, IntSub}
 use Rattle.pcode.specs.declared.op.ShiftOp.TheVariants.{IntLeft, IntSignedRight}
 use Rattle.pcode.specs.declared.op.CompareOp.TheVariants.{IntSignedLess, IntLess, IntSignedCarry, IntSignedBorrow}
 use Rattle.pcode.specs.declared.op.Op.TheVariants.{Subpiece, One, Two, Shift, Compare}
-use Rattle.meaning.specs.Meaning.{meaning, signed, count_ones, leading_zeros}
+use Rattle.meaning.specs.Meaning.{meaning, signed, leading_zeros}
 
 open_door : meaning (Two IntAdd) 16 16 32767 1 ≡ 32768
 unfolding meaning

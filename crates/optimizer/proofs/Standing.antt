@@ -1,17 +1,14 @@
 -- What the first pass's checks accept stands in its store.
-use Prim.Native.Nat.{ℕ, ◌+◌, ◌≤◌, ◌<◌}
+use Prim.Native.Nat.{◌≤◌, ◌<◌}
 use native.Mathlib.Omega.{arith}
-use mathlib.Core.Path.{◌≡◌, refl, sym, ◌∙◌, ap, subst}
-use mathlib.Core.Bool.{Bool, true, false, ◌||◌, true≢false}
-use mathlib.Core.List.{List, [], ◌∷◌, ◌++◌}
-use lib.Dec.{leb, eqb}
+use mathlib.Core.Path.{◌≡◌, sym, ◌∙◌, ap, subst}
+use mathlib.Core.Bool.{true}
+use mathlib.Core.List.{List, []}
 use lib.ListN.{length, take, drop, get_or, length-append, length-drop}
 use lib.Seq.{get_or-take, length-take-le, take-append_seam}
-use borrow.Author.Tests.{ltb-false, leb-true}
-use Rattle.pcode.specs.Var.{pick, same_id, as_operand, zero_id}
+use Rattle.pcode.specs.Var.{as_operand}
 use Rattle.pcode.specs.Block.{held, has_id, blank_stmt, first_limits}
 use Rattle.pcode.specs.declared.var.VarId.{VarId}
-use Rattle.pcode.specs.declared.var.VarNode.{VarNode}
 use Rattle.pcode.specs.declared.var.Operand.{Operand}
 use Rattle.pcode.specs.declared.var.Operand.TheVariants.{None, Const, Var}
 use Rattle.pcode.specs.declared.var.Output.{Output}
@@ -24,13 +21,11 @@ use Rattle.vars.specs.declared.Vars.{Vars}
 use Rattle.vars.proofs.Rows.{row_below, named_has, has_here}
 use Rattle.vars.proofs.Joining.{named_held, no_ids_length}
 use Rattle.text.specs.declared.answer.Answer.TheVariants.{Ok}
-use Rattle.checks.specs.Statements.{good_size, good_node, good_operand, good_parts, else_then, checks_from}
-use Rattle.checks.specs.Labels.{labels_from}
-use Rattle.checks.specs.Checks.{variables, check_of}
+use Rattle.checks.specs.Statements.{good_operand, good_parts}
+use Rattle.checks.specs.Checks.{check_of}
 use Rattle.checks.proofs.Passing.{Good, Passing, passing}
 use Rattle.checks.proofs.Parts.{chosen, size_in, node_in, has_left, has_right}
-use Rattle.const_eval.specs.Known.{Fit}
-use Rattle.uses.specs.Operands.{place_of, InOperand}
+use Rattle.uses.specs.Operands.{InOperand}
 use Rattle.simplify.specs.Simplify.{InOutput}
 use Rattle.const_prop.specs.Pass.{InStore, Stands}
 

@@ -1,5 +1,5 @@
 -- What the first pass's entry answers, and the block it hands back.
-use Rattle.std.specs.Prelude.{ℕ, List}
+use Rattle.std.specs.Prelude.{List}
 use Rattle.pcode.specs.Block.{held, first_limits}
 use Rattle.pcode.specs.declared.block.Stmt.{Stmt}
 use Rattle.pcode.specs.declared.block.Block.{Block}

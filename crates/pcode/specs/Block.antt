@@ -1,11 +1,9 @@
 -- Statements, blocks, marks and limits.
-use Rattle.std.specs.Prelude.{ℕ, ◌+◌, Bool, true, false, not, ◌&&◌, ◌||◌, List, [], ◌∷◌, ltb, pos, take, get_or, set, replicate}
+use Rattle.std.specs.Prelude.{◌+◌, Bool, false, not, ◌&&◌, ◌||◌, List, [], ◌∷◌, ltb, pos, take, set, replicate}
 use Rattle.pcode.specs.Var.{pick, same_id, less_id}
 use Rattle.pcode.specs.declared.var.VarId.{VarId}
 use Rattle.pcode.specs.declared.var.Operand.{Operand}
-use Rattle.pcode.specs.declared.var.Operand.TheVariants as Operand
 use Rattle.pcode.specs.declared.var.Output.{Output}
-use Rattle.pcode.specs.declared.var.Output.TheVariants as Output
 use Rattle.pcode.specs.declared.op.TrapOp.TheVariants.{Invalid}
 use Rattle.pcode.specs.declared.op.Op.{Op}
 use Rattle.pcode.specs.declared.op.Op.TheVariants.{Trap}

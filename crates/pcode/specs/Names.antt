@@ -1,5 +1,5 @@
 -- The operations' names in the text form, and their codes: the place of an operation's name in the list of names.
-use Rattle.std.specs.Prelude.{ℕ, zero, suc, ◌-◌, Bool, true, false, List, [], ◌∷◌, map, eqb, leb, ltb, get_or}
+use Rattle.std.specs.Prelude.{ℕ, ◌-◌, Bool, true, false, List, [], ◌∷◌, map, eqb, leb, ltb, get_or}
 use Prim.Native.String.{String, [] as end, ◌∷◌ as ◌then◌}
 use Prim.Native.Char.{code}
 use Rattle.pcode.specs.Var.{pick}

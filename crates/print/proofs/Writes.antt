@@ -3,12 +3,11 @@ use Prim.Native.Nat.{ℕ, zero, suc, ◌+◌, ◌-◌, ◌/◌, ◌%◌, ◌<◌
 use native.Mathlib.Numerals.{add-one}
 use native.Mathlib.Nat.{add-zero, not-suc-le-zero}
 use native.Mathlib.Omega.{arith}
-use mathlib.Core.Path.{◌≡◌, refl, sym, ap, subst, ◌∙◌}
-use mathlib.Core.Bool.{Bool, true, false}
+use mathlib.Core.Path.{◌≡◌, refl, sym, ap, ◌∙◌}
 use mathlib.Core.List.{List, [], ◌∷◌, ◌++◌, append_assoc}
 use borrow.Author.Tests.{lt-ltb, le-ltb}
-use lib.ListN.{length, take, drop, get_or, set, length-append, length-take, length-drop, take-append-drop}
-use lib.Seq.{set_split, length-take-le, take_at, drop_at, drop-append-add, drop-drop, take-suc, take_all}
+use lib.ListN.{length, take, drop, get_or, set, length-append, length-drop, take-append-drop}
+use lib.Seq.{set_split, length-take-le, take_at, drop-append-add, drop-drop, take-suc}
 use Rattle.print.specs.Texts.{Wrote, written, digits_text}
 
 module _ (d : List ℕ) (at : ℕ) where

@@ -1,21 +1,16 @@
 -- Ids, operands and outputs in the text form.
-use Rattle.std.specs.Prelude.{ℕ, ◌-◌, ◌^◌, not, List, [], ◌∷◌, eqb, pos, negsuc, length, get_or, drop}
+use Rattle.std.specs.Prelude.{ℕ, ◌-◌, ◌^◌, List, eqb, pos, negsuc, length, get_or, drop}
 use Rattle.pcode.specs.Var.{pick}
-use Rattle.pcode.specs.declared.var.Operand.{Operand}
 use Rattle.pcode.specs.declared.var.Operand.TheVariants.{None, Const, Var}
 use Rattle.pcode.specs.declared.var.Output.TheVariants as Output
-use Rattle.pcode.specs.declared.var.VarNode.{VarNode}
 use Rattle.pcode.specs.declared.var.VarId.{VarId}
 use Rattle.fields.specs.Parts.{part_of, count_of}
 use Rattle.fields.specs.Decimals.{decimal_of, onValue}
 use Rattle.record.specs.declared.operand.ReadId.{ReadId}
-use Rattle.record.specs.declared.operand.ReadId.TheVariants as ReadId
 use Rattle.record.specs.declared.operand.ReadVar.{ReadVar}
-use Rattle.record.specs.declared.operand.ReadVar.TheVariants as ReadVar
 use Rattle.record.specs.declared.operand.ReadOperand.{ReadOperand}
 use Rattle.record.specs.declared.operand.ReadOperand.TheVariants.{Bad, Good}
 use Rattle.record.specs.declared.operand.ReadOutput.{ReadOutput}
-use Rattle.record.specs.declared.operand.ReadOutput.TheVariants as ReadOutput
 
 -- the bytes `-`, `:`, `c`, `v`
 abbrev pub dash : ℕ

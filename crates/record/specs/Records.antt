@@ -1,5 +1,5 @@
 -- Records: marks and statements.
-use Rattle.std.specs.Prelude.{ℕ, List, [], ◌∷◌, eqb, ltb, pos, length}
+use Rattle.std.specs.Prelude.{ℕ, List, eqb, ltb, pos, length}
 use Rattle.pcode.specs.Var.{pick, less_id}
 use Rattle.pcode.specs.Names.{bytes_of, eq_bytes, takes_number, op_of}
 use Rattle.pcode.specs.Block.{stmt_of}
@@ -10,11 +10,8 @@ use Rattle.fields.specs.Decimals.{decimal_of, onValue}
 use Rattle.record.specs.Names.{code_named}
 use Rattle.record.specs.Operands.{id_of, onId, operand_of, output_of}
 use Rattle.record.specs.declared.operand.ReadOperand.{ReadOperand}
-use Rattle.record.specs.declared.operand.ReadOperand.TheVariants as ReadOperand
 use Rattle.record.specs.declared.operand.ReadOutput.{ReadOutput}
-use Rattle.record.specs.declared.operand.ReadOutput.TheVariants as ReadOutput
 use Rattle.record.specs.declared.record.ReadNumber.{ReadNumber}
-use Rattle.record.specs.declared.record.ReadNumber.TheVariants as ReadNumber
 use Rattle.record.specs.declared.record.Record.{Record}
 use Rattle.record.specs.declared.record.Record.TheVariants.{Bad, Mark, Statement}
 

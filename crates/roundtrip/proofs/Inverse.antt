@@ -8,17 +8,12 @@ use Rattle.pcode.specs.declared.var.Operand.{Operand}
 use Rattle.pcode.specs.declared.var.Output.{Output}
 use Rattle.fields.specs.Decimals.{onValue}
 use Rattle.fields.specs.declared.decimal.Parsed.{Parsed}
-use Rattle.fields.specs.declared.decimal.Parsed.TheVariants as Parsed
 use Rattle.record.specs.Operands.{onId}
 use Rattle.record.specs.Records.{onNumber, onOutput, on_operand}
 use Rattle.record.specs.declared.operand.ReadId.{ReadId}
-use Rattle.record.specs.declared.operand.ReadId.TheVariants as ReadId
 use Rattle.record.specs.declared.operand.ReadOperand.{ReadOperand}
-use Rattle.record.specs.declared.operand.ReadOperand.TheVariants as ReadOperand
 use Rattle.record.specs.declared.operand.ReadOutput.{ReadOutput}
-use Rattle.record.specs.declared.operand.ReadOutput.TheVariants as ReadOutput
 use Rattle.record.specs.declared.record.ReadNumber.{ReadNumber}
-use Rattle.record.specs.declared.record.ReadNumber.TheVariants as ReadNumber
 
 module _ {A : Type 0} (bad r : A) (no : bad ≡ r → ⊥) where
   -- a test that passed

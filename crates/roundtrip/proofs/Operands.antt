@@ -15,7 +15,6 @@ use Rattle.pcode.specs.declared.var.VarNode.{VarNode}
 use Rattle.pcode.specs.declared.var.Operand.{Operand}
 use Rattle.pcode.specs.declared.var.Operand.TheVariants.{None, Const, Var}
 use Rattle.pcode.specs.declared.var.Output.{Output}
-use Rattle.pcode.specs.declared.var.Output.TheVariants as Output
 use Rattle.fields.specs.Parts.{part_of, count_of}
 use Rattle.fields.specs.Decimals.{decimal_of}
 use Rattle.fields.specs.declared.decimal.Parsed.TheVariants.{Value}

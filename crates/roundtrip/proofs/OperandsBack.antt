@@ -14,16 +14,13 @@ use Rattle.pcode.specs.declared.var.VarNode.{VarNode}
 use Rattle.pcode.specs.declared.var.Operand.{Operand}
 use Rattle.pcode.specs.declared.var.Operand.TheVariants.{None, Const, Var}
 use Rattle.pcode.specs.declared.var.Output.{Output}
-use Rattle.pcode.specs.declared.var.Output.TheVariants as Output
 use Rattle.fields.specs.Parts.{part_of, count_of}
 use Rattle.fields.specs.Decimals.{decimal_of, onValue}
 use Rattle.fields.specs.declared.decimal.Parsed.TheVariants.{Value}
 use Rattle.fields.proofs.Decimals.{bounded}
 use Rattle.record.specs.Operands.{id_of, var_of, const_of, operand_of, output_of, as_var, as_output}
 use Rattle.record.specs.declared.operand.ReadId.{ReadId}
-use Rattle.record.specs.declared.operand.ReadId.TheVariants as ReadId
 use Rattle.record.specs.declared.operand.ReadVar.{ReadVar}
-use Rattle.record.specs.declared.operand.ReadVar.TheVariants as ReadVar
 use Rattle.record.specs.declared.operand.ReadOperand.{ReadOperand}
 use Rattle.record.specs.declared.operand.ReadOperand.TheVariants.{Bad, Good}
 use Rattle.record.specs.declared.operand.ReadOutput.TheVariants as ReadOutput

@@ -28,7 +28,6 @@ use Rattle.record.specs.declared.operand.ReadId.TheVariants as ReadId
 use Rattle.record.specs.declared.operand.ReadOperand.TheVariants as ReadOperand
 use Rattle.record.specs.declared.operand.ReadOutput.TheVariants as ReadOutput
 use Rattle.record.specs.declared.record.ReadNumber.{ReadNumber}
-use Rattle.record.specs.declared.record.ReadNumber.TheVariants as ReadNumber
 use Rattle.record.specs.declared.record.Record.{Record}
 use Rattle.record.specs.declared.record.Record.TheVariants.{Bad, Mark, Statement}
 use Rattle.print.specs.Texts.{digits_text, number_text}

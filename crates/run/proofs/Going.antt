@@ -17,7 +17,6 @@ use Rattle.print.proofs.Writes.{then, retold, none}
 use Rattle.step.specs.Events.{Event, Ended, rows_in, end_rows}
 use Rattle.step.specs.Steps.{Machine, Step, act_of, events_of, flow_of, rows_after, loads_after, step_of}
 use Rattle.step.specs.declared.Act.{Act}
-use Rattle.step.specs.declared.Act.TheVariants as Act
 use Rattle.step.specs.declared.Flow.{Flow}
 use Rattle.step.specs.declared.Flow.TheVariants.{Next, Jump}
 use Rattle.trace.specs.Words.{trace_words, state_words}

@@ -1,16 +1,13 @@
 -- A checked block may be run: each statement meets what its step asks, at every state.
-use Prim.Native.Nat.{ℕ, ◌+◌, ◌*◌, ◌≤◌}
-use mathlib.Core.Path.{◌≡◌, refl, sym, ap, subst}
-use mathlib.Core.Bool.{Bool, true, false, ◌||◌, true≢false}
-use mathlib.Core.List.{List, [], ◌∷◌, ◌++◌}
-use lib.Dec.{eqb, leb}
+use Prim.Native.Nat.{ℕ, ◌*◌, ◌≤◌}
+use mathlib.Core.Path.{◌≡◌, refl, ap, subst}
+use mathlib.Core.Bool.{Bool, true, false, ◌||◌}
+use mathlib.Core.List.{List}
 use lib.ListN.{length, get_or}
-use borrow.Author.Tests.{leb-true}
-use Rattle.pcode.specs.Var.{pick, same_id, zero_id, size_of, size_out, as_operand}
+use Rattle.pcode.specs.Var.{size_of, size_out, as_operand}
 use Rattle.pcode.specs.Rules.{meets, output_need, first_need}
 use Rattle.pcode.specs.Block.{held, has_id, blank_stmt, second_limits}
 use Rattle.pcode.specs.declared.var.VarId.{VarId}
-use Rattle.pcode.specs.declared.var.VarNode.{VarNode}
 use Rattle.pcode.specs.declared.var.Operand.{Operand}
 use Rattle.pcode.specs.declared.var.Operand.TheVariants.{None, Const, Var}
 use Rattle.pcode.specs.declared.var.Output.{Output}
@@ -21,7 +18,7 @@ use Rattle.pcode.proofs.Ids.{same_id_refl}
 use Rattle.vars.specs.Vars.{ids_in, ids_of, vars_of}
 use Rattle.vars.proofs.Rows.{named_has}
 use Rattle.text.specs.declared.answer.Answer.TheVariants.{Ok}
-use Rattle.checks.specs.Statements.{good_size, good_node, good_operand, there, good_parts, met_needs, good_sizes}
+use Rattle.checks.specs.Statements.{good_operand, there, good_parts, met_needs, good_sizes}
 use Rattle.checks.specs.Checks.{check_of}
 use Rattle.checks.proofs.Passing.{Good, passing}
 use Rattle.checks.proofs.Parts.{chosen, size_in, node_in, has_left, has_right}

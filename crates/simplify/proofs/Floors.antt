@@ -1,10 +1,9 @@
 -- How a statement's parts join. Assumes nothing.
-use Prim.Native.Nat.{ℕ, ◌+◌, ◌*◌, ◌≤◌}
-use mathlib.Core.Path.{◌≡◌, refl, sym, ◌∙◌, ap, subst}
-use mathlib.Core.Bool.{Bool}
+use Prim.Native.Nat.{ℕ, ◌≤◌}
+use mathlib.Core.Path.{◌≡◌, sym, ◌∙◌, ap, subst}
 use mathlib.Core.List.{List, ◌++◌}
 use native.Mathlib.Omega.{arith}
-use lib.ListN.{length, take, drop, length-append, length-drop}
+use lib.ListN.{length, drop, length-append, length-drop}
 use Rattle.pcode.specs.Rules.{side_effects}
 use Rattle.pcode.specs.Block.{stmt_of}
 use Rattle.pcode.specs.declared.var.VarNode.{VarNode}
@@ -25,7 +24,7 @@ use Rattle.uses.specs.declared.Use.{Use}
 use Rattle.uses.proofs.Replaced.{stands}
 use Rattle.widen.specs.declared.simple.Simple.{Simple}
 use Rattle.widen.specs.declared.turn.Turn.{Turn}
-use Rattle.simplify.specs.Simplify.{Change, simple_by, settled_change, write_of, turned, simplify_of, used_both, replaced_of, Prepares}
+use Rattle.simplify.specs.Simplify.{Change, simple_by, settled_change, write_of, turned, simplify_of, replaced_of, Prepares}
 use Rattle.simplify.specs.declared.Prepared.{Prepared}
 
 -- both operands' uses, one after the other

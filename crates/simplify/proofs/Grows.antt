@@ -1,10 +1,9 @@
 -- What a whole statement keeps: the state stays good, the lengths stay, and the counts grow by four at most. Assumes nothing.
-use Prim.Native.Nat.{ℕ, ◌+◌, ◌*◌, ◌≤◌, ◌<◌}
+use Prim.Native.Nat.{ℕ, ◌+◌, ◌*◌, ◌≤◌}
 use mathlib.Core.Path.{◌≡◌, refl, sym, ◌∙◌, ap, subst}
-use mathlib.Core.List.{List, ◌++◌}
+use mathlib.Core.List.{List}
 use native.Mathlib.Omega.{arith}
 use lib.ListN.{length, drop, length-append, length-drop}
-use Rattle.pcode.specs.declared.op.Op.{Op}
 use Rattle.pcode.specs.declared.var.VarNode.{VarNode}
 use Rattle.pcode.specs.declared.var.Operand.{Operand}
 use Rattle.pcode.specs.declared.var.Operand.TheVariants.{None, Const, Var}
@@ -14,11 +13,9 @@ use Rattle.pcode.specs.declared.block.Stmt.{Stmt}
 use Rattle.vars.specs.declared.Vars.{Vars}
 use Rattle.bit_vec.specs.Lists.{codes}
 use Rattle.bit_vec.specs.Moves.{digits}
-use Rattle.const_eval.specs.declared.place.Place.{Place}
 use Rattle.const_eval.specs.Known.{Fit}
 use Rattle.const_eval.specs.State.{State, first_use, cleared, Good, Able}
 use Rattle.const_eval.proofs.Keeps.{Kept, same_kept, first_kept, cleared_kept, kept_fit, able_room}
-use Rattle.settle.specs.Settle.{settled_of}
 use Rattle.settle.proofs.Settles.{settled_kept}
 use Rattle.uses.specs.Operands.{place_of, operand_bits, used_by, const_row, InOperand}
 use Rattle.uses.proofs.Replaced.{const_codes}

@@ -1,10 +1,9 @@
 -- A statement other than a label: operands replaced, branches dropped or skipping, hooks, unchanged outputs dropped, copies.
-use Rattle.std.specs.Prelude.{ℕ, ◌≤◌, ◌≡◌, Bool, true, false, List, length}
+use Rattle.std.specs.Prelude.{ℕ, ◌≡◌, Bool, List, length}
 use Rattle.pcode.specs.Var.{pick}
 use Rattle.pcode.specs.Rules.{side_effects}
 use Rattle.pcode.specs.Block.{stmt_of}
 use Rattle.pcode.specs.declared.var.VarNode.{VarNode}
-use Rattle.pcode.specs.declared.var.Operand.{Operand}
 use Rattle.pcode.specs.declared.var.Operand.TheVariants.{Const}
 use Rattle.pcode.specs.declared.var.Output.{Output}
 use Rattle.pcode.specs.declared.var.Output.TheVariants as Out
@@ -20,9 +19,8 @@ use Rattle.settle.specs.Settle.{Settlement, settled_of}
 use Rattle.widen.specs.declared.turn.Turn.{Turn}
 use Rattle.widen.specs.declared.turn.Turn.TheVariants.{Plain, Marker, Label, Jump, Exit, Hook}
 use Rattle.settle.specs.declared.Outcome.{Outcome}
-use Rattle.settle.specs.declared.Outcome.TheVariants as Outcome
 use Rattle.widen.specs.declared.simple.Simple.{Simple}
-use Rattle.widen.specs.declared.simple.Simple.TheVariants.{Dropped, Skips, Copies, Stays, TooFar, BadSizes}
+use Rattle.widen.specs.declared.simple.Simple.TheVariants.{Dropped, Copies, Stays, TooFar, BadSizes}
 use Rattle.simplify.specs.declared.Simplified.{Simplified}
 use Rattle.simplify.specs.declared.Prepared.{Prepared}
 

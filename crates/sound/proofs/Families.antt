@@ -15,7 +15,6 @@ use Rattle.bit_vec.specs.Lists.{logic_b, zip_bits, ripple_bits, eq_bits}
 use Rattle.bit_vec.specs.Moves.{fit, last_of, truth}
 use Rattle.bit_vec.specs.Known.{const_of, count_ones, leading_zeros}
 use Rattle.bit_vec.specs.declared.logic.Logic.{Logic}
-use Rattle.bit_vec.specs.declared.logic.Logic.TheVariants as Logic
 use Rattle.bit_vec.specs.declared.ripple.Ripple.TheVariants.{Add, Sub}
 use Rattle.bit_vec.proofs.Moved.{length_fit}
 use Rattle.eval.specs.Held.{plain, read_all, truth_of}

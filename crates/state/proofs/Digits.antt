@@ -2,7 +2,7 @@
 use Prim.Native.Nat.{ℕ, zero, suc, ◌+◌, ◌*◌, ◌-◌, ◌/◌, ◌%◌, ◌^◌, ◌<◌, ◌≤◌}
 use native.Mathlib.Omega.{arith}
 use native.Mathlib.Numerals.{add-one}
-use native.Mathlib.Nat.{mul_comm, mul_assoc, mul-add, add-mul-div_left, div-eq_of_lt, div-div-eq-div-mul, add-mul-mod_self_left, mod-eq_of_lt, zero-add, suc-add, le_of_suc-le-suc, not-suc-le-zero, div-one, div-lt_iff_lt-mul, pow-succ', one-le-pow, mul-le-mul_left, lt_of_lt_of_le, pow-le-pow_right}
+use native.Mathlib.Nat.{mul_comm, mul_assoc, mul-add, add-mul-div_left, div-div-eq-div-mul, add-mul-mod_self_left, zero-add, suc-add, le_of_suc-le-suc, not-suc-le-zero, div-one, div-lt_iff_lt-mul, pow-succ', one-le-pow, mul-le-mul_left, lt_of_lt_of_le, pow-le-pow_right}
 use lib.Dec.{lit<}
 use mathlib.Core.Path.{◌≡◌, refl, sym, ap, ◌∙◌, subst}
 use mathlib.Core.List.{List, [], ◌∷◌, ◌++◌, append-nil}

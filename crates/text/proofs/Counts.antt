@@ -1,12 +1,12 @@
 -- A line's number is one more than the marks and statements before it, so it stays small.
-use Prim.Native.Nat.{ℕ, zero, suc, ◌+◌, ◌<◌, ◌≤◌}
+use Prim.Native.Nat.{ℕ, ◌+◌, ◌<◌, ◌≤◌}
 use native.Mathlib.Omega.{arith}
-use mathlib.Core.Path.{◌≡◌, refl, sym, ap, subst, ◌∙◌}
+use mathlib.Core.Path.{◌≡◌, refl, sym, ◌∙◌}
 use mathlib.Core.Bool.{Bool, true, false}
-use mathlib.Core.List.{List, [], ◌∷◌}
+use mathlib.Core.List.{List}
 use borrow.Author.Tests.{lt-ltb, ltb-false, ltb-true, leb-false}
-use lib.Dec.{eqb, leb, ltb}
-use lib.ListN.{length, take, set, length-take}
+use lib.Dec.{leb, ltb}
+use lib.ListN.{length, take, length-take}
 use lib.Seq.{take_all}
 use Rattle.pcode.specs.Var.{pick}
 use Rattle.pcode.specs.Block.{pushed}
@@ -17,8 +17,7 @@ use Rattle.pcode.specs.declared.refusal.Refusal.TheVariants.{BadLine, TooManySta
 use Rattle.record.specs.declared.record.Record.{Record}
 use Rattle.record.specs.declared.record.Record.TheVariants.{Bad, Mark, Statement}
 use Rattle.text.specs.Reading.{empty_read, refused_read, read_with, with_mark, accepted_mark, accepted_stmt, accepted, room_of}
-use Rattle.text.specs.declared.answer.Answer.{Answer}
-use Rattle.text.specs.declared.answer.Answer.TheVariants.{Ok, Refused}
+use Rattle.text.specs.declared.answer.Answer.TheVariants.{Ok}
 use Rattle.text.specs.declared.answer.Read.{Read}
 
 pub record Counted (limit line : ℕ) (r : Read) : Type 0 where

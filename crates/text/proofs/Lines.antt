@@ -1,8 +1,7 @@
 -- A file's first line, and how reading goes on from it.
 use Prim.Native.Nat.{ℕ, zero, suc, ◌+◌, ◌<◌, ◌≤◌}
-use native.Mathlib.Omega.{arith}
 use native.Mathlib.Nat.{not-suc-le-zero}
-use mathlib.Core.Path.{◌≡◌, refl, sym, ap, ◌∙◌}
+use mathlib.Core.Path.{◌≡◌, refl, ap, ◌∙◌}
 use mathlib.Core.Bool.{Bool, true, false}
 use mathlib.Core.List.{List, [], ◌∷◌}
 use lib.Dec.{eqb}
@@ -12,7 +11,6 @@ use Rattle.pcode.specs.declared.refusal.Refusal.{Refusal}
 use Rattle.fields.specs.Parts.{place_of, head_of, tail_of}
 use Rattle.record.specs.Records.{record_of}
 use Rattle.text.specs.Reading.{newline, in_front, lines_of, accepted, unless_refused, read_lines}
-use Rattle.text.specs.declared.answer.Answer.{Answer}
 use Rattle.text.specs.declared.answer.Answer.TheVariants.{Ok, Refused}
 use Rattle.text.specs.declared.answer.Read.{Read}
 

@@ -1,5 +1,5 @@
 -- Reading a file: a line at a time, up to the first refusal.
-use Rattle.std.specs.Prelude.{ℕ, zero, suc, ◌+◌, ◌*◌, List, [], ◌∷◌, eqb, leb, ltb, set}
+use Rattle.std.specs.Prelude.{ℕ, ◌+◌, ◌*◌, List, [], ◌∷◌, eqb, leb, ltb, set}
 use Rattle.pcode.specs.Var.{pick}
 use Rattle.pcode.specs.Block.{empty_block, no_marks, pushed}
 use Rattle.pcode.specs.declared.var.VarId.{VarId}

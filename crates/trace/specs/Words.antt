@@ -1,5 +1,5 @@
 -- The words that record a run's events.
-use Rattle.std.specs.Prelude.{ℕ, suc, ◌+◌, ◌*◌, ◌/◌, ◌%◌, ◌^◌, List, [], ◌∷◌, ◌++◌}
+use Rattle.std.specs.Prelude.{ℕ, suc, ◌*◌, ◌/◌, ◌%◌, ◌^◌, List, [], ◌∷◌, ◌++◌}
 use Rattle.pcode.specs.Var.{pick}
 use Rattle.pcode.specs.Block.{lasting}
 use Rattle.pcode.specs.declared.var.VarId.{VarId}

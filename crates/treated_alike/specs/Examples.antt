@@ -10,7 +10,6 @@ use Rattle.pcode.specs.declared.op.OneOp.TheVariants.{Copy}
 use Rattle.pcode.specs.declared.op.DivideOp.TheVariants.{IntDiv}
 use Rattle.pcode.specs.declared.op.RotateOp.TheVariants.{IntRotateLeft}
 use Rattle.pcode.specs.declared.op.Op.{Op}
-use Rattle.pcode.specs.declared.op.Op.TheVariants as Op
 use Rattle.pcode.specs.declared.block.Stmt.{Stmt}
 use Rattle.pcode.specs.declared.refusal.Refusal.TheVariants.{BadLine, BadLabel, RotateTooFar, NoTemporary}
 use Rattle.vars.specs.Vars.{join_id, join_ids, vars_from, vars_of, row_of, over_from, no_ids}

@@ -1,5 +1,5 @@
 -- What an operand becomes, by its known constant and by what the map gives. Assumes nothing.
-use Prim.Native.Nat.{ℕ, ◌+◌, ◌*◌, ◌≤◌}
+use Prim.Native.Nat.{ℕ, ◌*◌, ◌≤◌}
 use mathlib.Core.Path.{◌≡◌, refl, sym, ◌∙◌, ap, subst}
 use mathlib.Core.List.{List, ◌++◌}
 use native.Mathlib.Omega.{arith}
@@ -22,7 +22,7 @@ use Rattle.bit_vec.specs.Known.{const_of}
 use Rattle.bit_vec.proofs.Moved.{length_digits}
 use Rattle.eval.specs.Operand.{bits_of}
 use Rattle.const_eval.specs.Known.{part_of, Fit, Within}
-use Rattle.const_eval.specs.Map.{entries, lookup_of, Inside}
+use Rattle.const_eval.specs.Map.{entries, lookup_of}
 use Rattle.const_eval.specs.State.{State, Good, Able, first_use}
 use Rattle.const_eval.proofs.Keeps.{first_kept, kept_fit, good_within, able_room}
 use Rattle.const_eval.proofs.Looks.{lookup_within}

@@ -1,5 +1,5 @@
 -- An operand's bits, its use, and what it becomes: its known constant, else the variable that the value map gives.
-use Rattle.std.specs.Prelude.{ℕ, ◌+◌, ◌*◌, ◌≤◌, ◌<◌, ◌≡◌, List, [], ◌++◌, pos, length, take, drop, get_or}
+use Rattle.std.specs.Prelude.{ℕ, ◌*◌, ◌≤◌, ◌≡◌, List, [], ◌++◌, pos, length, drop, get_or}
 use Rattle.pcode.specs.Var.{size_of}
 use Rattle.pcode.specs.declared.var.VarNode.{VarNode}
 use Rattle.pcode.specs.declared.var.Operand.{Operand}
@@ -16,7 +16,7 @@ use Rattle.eval.specs.declared.operand.Slot.TheVariants as Slots
 use Rattle.const_eval.specs.declared.place.Place.{Place}
 use Rattle.const_eval.specs.declared.map.Found.{Found}
 use Rattle.const_eval.specs.declared.map.Found.TheVariants.{Nothing, At}
-use Rattle.const_eval.specs.Known.{part_of, Fit, Within}
+use Rattle.const_eval.specs.Known.{part_of, Fit}
 use Rattle.const_eval.specs.Map.{entries, Inside}
 use Rattle.const_eval.specs.State.{State, first_use, map_gives}
 use Rattle.uses.specs.declared.Use.{Use}

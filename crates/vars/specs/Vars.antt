@@ -1,5 +1,5 @@
 -- The block's variables in the order of first naming (output, first, second), the row of each, and where a limit is passed.
-use Rattle.std.specs.Prelude.{ℕ, zero, suc, ◌+◌, Bool, true, false, List, [], ◌∷◌, ◌++◌, map, ltb, ℤ, pos, length, take, drop, set, replicate}
+use Rattle.std.specs.Prelude.{ℕ, suc, ◌+◌, List, [], ◌∷◌, ◌++◌, map, ltb, ℤ, pos, length, take, drop, set, replicate}
 use Rattle.pcode.specs.Var.{pick, same_id, as_operand}
 use Rattle.pcode.specs.Block.{has_id}
 use Rattle.pcode.specs.declared.var.VarId.{VarId}

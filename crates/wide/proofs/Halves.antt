@@ -1,7 +1,7 @@
 -- A number of two digits lo + W * hi in a base W: its digits, equality, order, and what a power of two cuts off or leaves.
-use Rattle.std.proofs.Common.{◌≡◌, ℕ, zero, suc, ◌+◌, ◌*◌, ◌/◌, ◌%◌, ◌^◌, ◌<◌, ◌≤◌, Bool, true, false, eqb, ltb, sym, refl, ap, ◌∙◌, subst, mul-le-mul_right, mod-lt, mod-eq_of_lt, mul_assoc, suc-mul, mul_comm, div-lt_iff_lt-mul, add_comm, mul-le-mul_left, zero-add, mul-suc, mul-add, arith, ltb-true, le-ltb, lt-ltb, eq-eqb, ne_eqb, eqb-true}
+use Rattle.std.proofs.Common.{◌≡◌, ℕ, ◌+◌, ◌*◌, ◌/◌, ◌%◌, ◌<◌, Bool, true, false, eqb, ltb, sym, refl, ap, ◌∙◌, subst, mul-le-mul_right, mod-lt, mod-eq_of_lt, mul_assoc, suc-mul, mul_comm, div-lt_iff_lt-mul, mul-le-mul_left, zero-add, mul-suc, mul-add, arith, ltb-true, le-ltb, lt-ltb, eq-eqb, ne_eqb, eqb-true}
 use native.Mathlib.Nat.{div-eq_of_lt, add-mul-mod_self_left, add-mul-div_left, div-div-eq-div-mul, mod-add-div}
-use lib.Arith.{mod-mul, digits_div, digits_mod}
+use lib.Arith.{mod-mul}
 
 -- two tests that pass together are the same
 iff : (x y : Bool) → (x ≡ true → y ≡ true) → (y ≡ true → x ≡ true) → x ≡ y

@@ -1,5 +1,5 @@
 -- 2^64 and 2^128 as products of smaller powers of two, and what two halves stay below.
-use Rattle.std.proofs.Common.{◌≡◌, ℕ, ◌+◌, ◌-◌, ◌*◌, ◌^◌, ◌<◌, ◌≤◌, sym, refl, ap, ◌∙◌, subst, lt_of_lt_of_le, arith, lit<, pow_mono, pow-add}
+use Rattle.std.proofs.Common.{◌≡◌, ℕ, ◌+◌, ◌-◌, ◌*◌, ◌^◌, ◌<◌, ◌≤◌, sym, ap, ◌∙◌, subst, lt_of_lt_of_le, arith, lit<, pow_mono, pow-add}
 use lib.Arith.{digits_lt}
 use Rattle.wide.proofs.Halves.{turned}
 

@@ -1,14 +1,11 @@
 -- The ways out of the two kinds of branches. Assumes nothing.
 use Prim.Native.Nat.{ℕ, zero, suc}
-use mathlib.Core.Path.{◌≡◌, refl, sym, ◌∙◌, ap}
-use native.Mathlib.Omega.{arith}
+use mathlib.Core.Path.{◌≡◌, refl}
 use Rattle.pcode.specs.declared.var.PcodeLabel.{PcodeLabel}
 use Rattle.pcode.specs.declared.block.Stmt.{Stmt}
-use Rattle.bit_vec.specs.declared.known.Constant.{Constant}
-use Rattle.bit_vec.specs.declared.known.Constant.TheVariants.{Known, Open}
+use Rattle.bit_vec.specs.declared.known.Constant.TheVariants.{Known}
 use Rattle.widen.specs.Simple.{jump_of, exit_of}
-use Rattle.widen.specs.declared.simple.Simple.{Simple}
-use Rattle.widen.specs.declared.simple.Simple.TheVariants.{Dropped, Skips, Stays}
+use Rattle.widen.specs.declared.simple.Simple.TheVariants.{Stays}
 
 -- a constant other than 0
 pub exit_other : (k : ℕ) (s : Stmt) → (k ≡ 0 → ⊥) → Stays s ≡ exit_of (Known k) s

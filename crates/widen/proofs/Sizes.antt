@@ -14,7 +14,7 @@ use Rattle.pcode.specs.declared.op.Op.TheVariants.{One as OneOf}
 use Rattle.pcode.specs.declared.var.VarId.{VarId}
 use Rattle.pcode.specs.declared.var.VarNode.{VarNode}
 use Rattle.pcode.specs.declared.var.Operand.{Operand}
-use Rattle.pcode.specs.declared.var.Operand.TheVariants.{None, Const, Var}
+use Rattle.pcode.specs.declared.var.Operand.TheVariants.{None, Var}
 use Rattle.pcode.specs.declared.var.Output.{Output}
 use Rattle.pcode.specs.declared.var.Output.TheVariants as Out
 use Rattle.pcode.specs.declared.block.Stmt.{Stmt}
@@ -22,8 +22,7 @@ use Rattle.bit_vec.specs.Lists.{bits}
 use Rattle.bit_vec.specs.Known.{trailing_zeros}
 use Rattle.eval.proofs.Products.{trailing_le}
 use Rattle.const_eval.specs.declared.place.Place.{Place}
-use Rattle.const_eval.specs.Known.{Within}
-use Rattle.widen.specs.Widen.{zeros_above, is_power, widened_of, lowest, copied_at, copied_of, added_of, one_m, two_m, refused_m, kept_of}
+use Rattle.widen.specs.Widen.{zeros_above, is_power, widened_of, lowest, copied_at, copied_of, one_m, two_m, refused_m, kept_of}
 use Rattle.widen.specs.declared.widen.Made.{Made}
 use Rattle.widen.specs.declared.widen.Why.TheVariants as Whys
 

@@ -1,5 +1,5 @@
 -- What the two kinds of branches come to.
-use Rattle.std.specs.Prelude.{ℕ, zero, suc}
+use Rattle.std.specs.Prelude.{zero, suc}
 use Rattle.pcode.specs.declared.var.PcodeLabel.{PcodeLabel}
 use Rattle.pcode.specs.declared.block.Stmt.{Stmt}
 use Rattle.bit_vec.specs.declared.known.Constant.{Constant}

@@ -1,5 +1,5 @@
 -- Widening, and the statements that go into the result.
-use Rattle.std.specs.Prelude.{ℕ, zero, suc, ◌+◌, ◌*◌, ◌-◌, ◌/◌, ◌≤◌, ◌≡◌, Bool, true, false, ◌||◌, List, [], ◌∷◌, eqb, take, drop, length}
+use Rattle.std.specs.Prelude.{ℕ, ◌+◌, ◌*◌, ◌-◌, ◌/◌, Bool, ◌||◌, List, eqb, take, drop}
 use Rattle.pcode.specs.Var.{pick, same_id, below_id}
 use Rattle.pcode.specs.Block.{stmt_of, blank_stmt}
 use Rattle.pcode.specs.declared.op.OneOp.TheVariants.{Copy, ZeroExtend}

@@ -1,10 +1,8 @@
-use native.Mathlib.Omega.{arith}
-use mathlib.Core.Path.{◌≡◌, refl, sym, ◌∙◌, ap, subst}
+use mathlib.Core.Path.{sym, ◌∙◌, ap}
 use Rattle.pcode.specs.declared.var.Operand.{Operand}
 use Rattle.vars.specs.Vars.{ids_in}
 use Rattle.const_prop.specs.Pass.{least_from}
 use Rattle.const_prop.proofs.Least.{least_nil, least_one}
-use borrow.Author.Rules.{rules}
 use Rattle.const_prop.proofs.least_operand.Goals as goal
 
 pub returns-in-None : goal.returns-in-None

@@ -1,12 +1,10 @@
-use native.Mathlib.Omega.{arith}
-use mathlib.Core.Path.{◌≡◌, refl, sym, ◌∙◌, ap, subst}
+use mathlib.Core.Path.{◌∙◌, ap}
 use Rattle.pcode.specs.Var.{as_operand}
 use Rattle.pcode.specs.declared.var.VarId.{VarId}
 use Rattle.pcode.specs.declared.var.Operand.{Operand}
 use Rattle.vars.specs.Vars.{ids_in}
 use Rattle.const_prop.specs.Pass.{least_from}
 use Rattle.const_prop.proofs.Least.{least_three}
-use borrow.Author.Rules.{rules}
 use Rattle.const_prop.proofs.least_stmt.Goals as goal
 
 pub returns : goal.returns

@@ -1,11 +1,9 @@
-use native.Mathlib.Omega.{arith}
-use mathlib.Core.Path.{◌≡◌, refl, sym, ◌∙◌, ap, subst}
+use mathlib.Core.Path.{◌≡◌, ◌∙◌, ap}
 use Prim.Native.Nat.{ℕ}
 use mathlib.Core.List.{List}
 use lib.ListN.{length, take}
 use Rattle.const_prop.specs.Pass.{walk_from, start_walk}
 use Rattle.const_prop.proofs.Walks.{begins_of, flags_are}
-use borrow.Author.Rules.{rules}
 use Rattle.const_prop.proofs.propagate.Goals as goal
 
 pub walk-requires : goal.walk-requires

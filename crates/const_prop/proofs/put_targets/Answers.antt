@@ -1,10 +1,7 @@
-use native.Mathlib.Omega.{arith}
-use mathlib.Core.Path.{◌≡◌, refl, sym, ◌∙◌, ap, subst}
+use mathlib.Core.Path.{◌∙◌, ap}
 use Prim.Native.Nat.{ℕ, ◌+◌}
-use mathlib.Core.List.{List}
 use lib.ListN.{set}
 use Rattle.const_step.specs.Labels.{target_of}
-use borrow.Author.Rules.{rules}
 use Rattle.const_prop.proofs.put_targets.Goals as goal
 
 pub returns : goal.returns

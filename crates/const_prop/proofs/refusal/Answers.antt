@@ -1,12 +1,9 @@
-use native.Mathlib.Omega.{arith}
-use mathlib.Core.Path.{◌≡◌, refl, sym, ◌∙◌, ap, subst}
+use mathlib.Core.Path.{sym, ◌∙◌, ap}
 use Rattle.pcode.specs.declared.block.Block.{Block}
 use Rattle.pcode.specs.declared.refusal.Refusal.TheVariants as Refusals
 use Rattle.text.specs.declared.answer.Answer.TheVariants.{Ok, Refused}
 use Rattle.widen.specs.declared.widen.Why.{Why}
 use Rattle.const_prop.specs.Pass.{refusal_of}
-use Rattle.const_prop.specs.declared.Propagated.{Propagated}
-use borrow.Author.Rules.{rules}
 use Rattle.const_prop.proofs.refusal.Goals as goal
 
 pub returns-in-Fine : goal.returns-in-Fine

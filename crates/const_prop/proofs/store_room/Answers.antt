@@ -1,6 +1,4 @@
-use borrow.Author.Rules.{rules}
-use native.Mathlib.Omega.{arith}
-use mathlib.Core.Path.{◌≡◌, refl, sym, ◌∙◌, ap, subst}
+use mathlib.Core.Path.{refl}
 use Rattle.const_prop.specs.Pass.{no_store}
 use Rattle.const_prop.proofs.store_room.Goals as goal
 

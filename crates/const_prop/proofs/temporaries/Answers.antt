@@ -1,9 +1,8 @@
 use borrow.Author.Rules.{rules}
 use native.Mathlib.Omega.{arith}
-use mathlib.Core.Path.{◌≡◌, refl, sym, ◌∙◌, ap, subst}
-use Prim.Native.Nat.{ℕ, ◌+◌, ◌-◌, ◌≤◌}
-use lib.ListN.{length, take, drop, get_or}
-use Rattle.bit_vec.proofs.Store.{Stored, begin, place_turn, place_done}
+use mathlib.Core.Path.{◌≡◌, ◌∙◌}
+use lib.ListN.{length, take}
+use Rattle.bit_vec.proofs.Store.{begin, place_turn, place_done}
 use Rattle.const_prop.specs.Pass.{temporary_flags, zero_var}
 use Rattle.const_prop.proofs.Marked.{flags_length, flag_at}
 use Rattle.const_prop.proofs.temporaries.Goals as goal

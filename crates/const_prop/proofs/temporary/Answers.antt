@@ -1,9 +1,6 @@
-use native.Mathlib.Omega.{arith}
-use mathlib.Core.Path.{◌≡◌, refl, sym, ◌∙◌, ap, subst}
+use mathlib.Core.Path.{sym, ◌∙◌, ap}
 use mathlib.Core.Bool.{Bool}
-use Prim.Native.Nat.{ℕ}
 use Rattle.pcode.specs.Var.{pick}
-use borrow.Author.Rules.{rules}
 use Rattle.const_prop.proofs.temporary.Goals as goal
 
 pub returns-then-lasting : goal.returns-then-lasting

@@ -1,4 +1,4 @@
-use Rattle.std.proofs.Common.{◌≡◌, true, false, length, sym, ◌∙◌, rules, eq-eqb, ne_eqb}
+use Rattle.std.proofs.Common.{◌≡◌, true, false, length, sym, ◌∙◌, eq-eqb, ne_eqb}
 use Rattle.pcode.specs.Rules.{size_rule}
 use Rattle.eval.specs.Sizes.{fits_bits}
 use Rattle.eval.proofs.eval.Goals as goal

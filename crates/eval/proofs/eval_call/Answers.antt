@@ -1,4 +1,3 @@
-use Rattle.std.proofs.Common.{rules}
 use Rattle.eval.proofs.eval_call.Goals as goal
 
 pub returns-in-Arg : goal.returns-in-Arg

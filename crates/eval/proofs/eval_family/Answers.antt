@@ -1,6 +1,6 @@
 use Rattle.eval.proofs.Laws.{all_same, no_second}
 use Rattle.eval.specs.Eval.{done}
-use Rattle.std.proofs.Common.{length, ap, rules, eqb-true, leb-true}
+use Rattle.std.proofs.Common.{length, ap, eqb-true, leb-true}
 use Rattle.eval.proofs.eval_family.Goals as goal
 
 pub subpiece-requires : goal.subpiece-requires

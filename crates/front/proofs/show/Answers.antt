@@ -1,9 +1,7 @@
-use native.Mathlib.Omega.{arith}
-use mathlib.Core.Path.{◌≡◌, refl, sym, ◌∙◌, ap, subst}
+use mathlib.Core.Path.{sym, ap}
 use Rattle.text.specs.declared.answer.Answer.{Answer}
-use Rattle.front.specs.Front.{Told, told_block, told_refusal, told_by}
+use Rattle.front.specs.Front.{told_block, told_refusal, told_by}
 use Rattle.front.proofs.Doors.{telling}
-use borrow.Author.Rules.{rules}
 use Rattle.front.proofs.show.Goals as goal
 
 pub returns-in-Ok : goal.returns-in-Ok

@@ -1,9 +1,7 @@
-use native.Mathlib.Omega.{arith}
-use mathlib.Core.Path.{◌≡◌, refl, sym, ◌∙◌, ap, subst}
+use mathlib.Core.Path.{ap}
 use Rattle.front.specs.Front.{end_of, told_by}
 use Rattle.optimizer.specs.declared.second.Treated.{Treated}
 use Rattle.front.proofs.Doors.{telling}
-use borrow.Author.Rules.{rules}
 use Rattle.front.proofs.treat.Goals as goal
 
 pub returns : goal.returns

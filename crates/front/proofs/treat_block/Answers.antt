@@ -1,8 +1,6 @@
-use native.Mathlib.Omega.{arith}
-use mathlib.Core.Path.{◌≡◌, refl, sym, ◌∙◌, ap, subst}
+use mathlib.Core.Path.{sym, ◌∙◌, ap}
 use Rattle.front.specs.declared.Pass.{Pass}
 use Rattle.front.specs.Front.{treat_of}
-use borrow.Author.Rules.{rules}
 use Rattle.front.proofs.treat_block.Goals as goal
 
 pub returns-in-First : goal.returns-in-First

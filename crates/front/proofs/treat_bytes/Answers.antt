@@ -1,8 +1,6 @@
-use native.Mathlib.Omega.{arith}
-use mathlib.Core.Path.{◌≡◌, refl, sym, ◌∙◌, ap, subst}
+use mathlib.Core.Path.{◌∙◌}
 use Rattle.text.specs.declared.answer.Answer.TheVariants.{Ok, Refused}
 use Rattle.front.proofs.Doors.{read_is}
-use borrow.Author.Rules.{rules}
 use Rattle.front.proofs.treat_bytes.Goals as goal
 
 pub returns-in-Ok : goal.returns-in-Ok

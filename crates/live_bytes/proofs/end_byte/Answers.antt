@@ -1,6 +1,4 @@
-use native.Mathlib.Omega.{arith}
 use borrow.Author.Tests.{lt-ltb, le-ltb}
-use borrow.Author.Rules.{rules}
 use Rattle.live_bytes.proofs.end_byte.Goals as goal
 
 pub returns-then-e-lt16 : goal.returns-then-e-lt16

@@ -1,4 +1,3 @@
-use native.Mathlib.Omega.{arith}
 use Rattle.live_bytes.specs.Bytes.{has}
 use borrow.Author.Rules.{rules}
 use Rattle.live_bytes.proofs.has_byte.Goals as goal

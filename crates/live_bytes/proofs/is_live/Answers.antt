@@ -1,10 +1,8 @@
-use native.Mathlib.Omega.{arith}
-use mathlib.Core.Path.{◌≡◌, sym, ◌∙◌, ap}
-use mathlib.Core.Bool.{Bool, true, false}
+use mathlib.Core.Path.{sym, ◌∙◌, ap}
+use mathlib.Core.Bool.{Bool}
 use borrow.Author.Tests.{not-true, not-false}
 use Rattle.live_bytes.specs.Bytes.{live_in}
 use Rattle.live_bytes.proofs.Runs.{live_last, live_covered}
-use borrow.Author.Rules.{rules}
 use Rattle.live_bytes.proofs.is_live.Goals as goal
 
 pub returns-then-not-persists : goal.returns-then-not-persists

@@ -1,10 +1,8 @@
-use native.Mathlib.Omega.{arith}
 use Prim.Native.Nat.{ℕ}
 use mathlib.Core.Path.{ap}
 use lib.Bits.{bit_or, bit_xor}
 use Rattle.live_bytes.specs.Bytes.{without_byte}
 use Rattle.live_bytes.proofs.Bits.{power}
-use borrow.Author.Rules.{rules}
 use Rattle.live_bytes.proofs.without.Goals as goal
 
 pub returns : goal.returns

@@ -1,11 +1,7 @@
-use borrow.Author.Rules.{rules}
-use native.Mathlib.Omega.{arith}
-use Prim.Native.Nat.{ℕ, ◌≤◌, ◌-◌}
-use mathlib.Core.Path.{◌≡◌, refl, sym, ◌∙◌, ap}
+use Prim.Native.Nat.{◌≤◌, ◌-◌}
+use mathlib.Core.Path.{◌≡◌}
 use Rattle.front.specs.Front.{treat_of}
-use Rattle.optimizer.specs.declared.second.Treated.{Treated}
 use Rattle.quargnil.specs.Answers.{repeated_of}
-use Rattle.quargnil.proofs.Codes.{again_is}
 use Rattle.quargnil.proofs.again.Given as goal
 
 abbrev pub invariant-loop-i : goal.invariant-loop-i

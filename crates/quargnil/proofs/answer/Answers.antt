@@ -1,7 +1,5 @@
-use native.Mathlib.Omega.{arith}
 use Rattle.front.specs.Front.{end_of}
 use Rattle.quargnil.proofs.Codes.{ended_is}
-use borrow.Author.Rules.{rules}
 use Rattle.quargnil.proofs.answer.Goals as goal
 
 pub returns : goal.returns

@@ -1,12 +1,10 @@
-use native.Mathlib.Omega.{arith}
 use Prim.Native.Nat.{ℕ}
-use mathlib.Core.Path.{◌≡◌, ◌∙◌, ap}
+use mathlib.Core.Path.{◌∙◌, ap}
 use Rattle.text.specs.Reading.{read_of}
 use Rattle.text.specs.declared.answer.Read.{Read}
 use Rattle.front.specs.Front.{limit_of, treat_of}
 use Rattle.front.specs.declared.Pass.{Pass}
 use Rattle.quargnil.specs.Answers.{repeated_of}
-use borrow.Author.Rules.{rules}
 use Rattle.quargnil.proofs.quargnil_repeat.Goals as goal
 
 pub returns : goal.returns

@@ -1,7 +1,5 @@
-use native.Mathlib.Omega.{arith}
 use Rattle.print.specs.declared.print.Printed.TheVariants.{NoRoom, Written}
 use Rattle.quargnil.proofs.Codes.{shown_is}
-use borrow.Author.Rules.{rules}
 use Rattle.quargnil.proofs.shown.Goals as goal
 
 pub returns-in-NoRoom : goal.returns-in-NoRoom

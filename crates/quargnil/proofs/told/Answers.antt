@@ -1,8 +1,6 @@
-use native.Mathlib.Omega.{arith}
 use mathlib.Core.Path.{refl}
 use Rattle.text.specs.declared.answer.Answer.TheVariants.{Ok, Refused}
 use Rattle.quargnil.proofs.Codes.{told_is}
-use borrow.Author.Rules.{rules}
 use Rattle.quargnil.proofs.told.Goals as goal
 
 pub returns-in-Ok : goal.returns-in-Ok

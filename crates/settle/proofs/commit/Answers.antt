@@ -5,7 +5,6 @@ use mathlib.Core.List.{List}
 use Prim.Native.Nat.{ℕ, ◌+◌}
 use Rattle.settle.proofs.Settles.{written_room}
 use Rattle.settle.proofs.Ways.{committed}
-use borrow.Author.Rules.{rules}
 use Rattle.settle.proofs.commit.Goals as goal
 
 pub note-tally-requires : goal.note-tally-requires

@@ -6,7 +6,6 @@ use Rattle.const_eval.specs.Known.{start_of, part_of}
 use Rattle.const_eval.proofs.Parts.{part_is}
 use Rattle.settle.specs.Settle.{named}
 use Rattle.settle.proofs.Ways.{evaluated}
-use borrow.Author.Rules.{rules}
 use Rattle.settle.proofs.compute.Goals as goal
 
 pub returns : goal.returns

@@ -2,7 +2,6 @@ use Rattle.eval.specs.Operand.{bits_of}
 use Rattle.const_eval.specs.Known.{part_of}
 use mathlib.Core.Path.{refl, sym, ◌∙◌}
 use Rattle.settle.proofs.Ways.{decide_same, decide_by_lem}
-use borrow.Author.Rules.{rules}
 use Rattle.settle.proofs.decide.Goals as goal
 
 pub returns-then-holds : goal.returns-then-holds

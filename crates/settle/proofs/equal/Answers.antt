@@ -1,6 +1,5 @@
 use mathlib.Core.Path.{sym}
 use Rattle.const_eval.proofs.Codes.{same_lengths}
-use borrow.Author.Rules.{rules}
 use Rattle.settle.proofs.equal.Goals as goal
 
 pub returns-then-a-b : goal.returns-then-a-b

@@ -3,7 +3,6 @@ use mathlib.Core.Path.{refl, ◌∙◌}
 use Rattle.const_eval.specs.State.{state_of}
 use Rattle.eval.specs.Operand.{bits_of}
 use Rattle.settle.proofs.Ways.{settled_by_lem, settled_done}
-use borrow.Author.Rules.{rules}
 use Rattle.settle.proofs.settle.Goals as goal
 
 pub commit-requires : goal.commit-requires

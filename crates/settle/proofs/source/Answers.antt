@@ -1,6 +1,5 @@
 use mathlib.Core.Path.{refl, sym, ◌∙◌}
 use Rattle.settle.proofs.Ways.{source_first, source_later}
-use borrow.Author.Rules.{rules}
 use Rattle.settle.proofs.source.Goals as goal
 
 pub returns-then-equal : goal.returns-then-equal

@@ -1,16 +1,12 @@
-use native.Mathlib.Omega.{arith}
-use mathlib.Core.Path.{◌≡◌, refl, sym, ◌∙◌, ap, subst}
+use mathlib.Core.Path.{sym, ◌∙◌, ap, subst}
 use lib.ListN.{length}
-use Prim.Native.Nat.{ℕ}
 use Rattle.pcode.specs.declared.var.Output.{Output}
 use Rattle.const_eval.specs.declared.place.Place.{Place}
-use Rattle.const_eval.specs.Known.{Fit}
-use Rattle.const_eval.specs.State.{State, state_of, Room, first_use, cleared}
+use Rattle.const_eval.specs.State.{State, state_of, first_use}
 use Rattle.widen.specs.declared.simple.Simple.TheVariants.{Stays}
 use Rattle.uses.specs.Operands.{place_of}
-use Rattle.simplify.specs.Simplify.{hook_of, InOutput, Change}
+use Rattle.simplify.specs.Simplify.{hook_of, InOutput}
 use Rattle.simplify.proofs.Floors.{hook_room}
-use borrow.Author.Rules.{rules}
 use Rattle.simplify.proofs.hook.Goals as goal
 
 pub first_use-v-requires : goal.first_use-v-requires

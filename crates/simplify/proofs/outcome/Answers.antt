@@ -1,14 +1,11 @@
-use native.Mathlib.Omega.{arith}
-use mathlib.Core.Path.{◌≡◌, refl, sym, ◌∙◌, ap, subst}
+use mathlib.Core.Path.{sym, ◌∙◌, ap}
 use mathlib.Core.Bool.{Bool}
 use Rattle.pcode.specs.Var.{pick}
 use Rattle.pcode.specs.Rules.{side_effects}
 use Rattle.pcode.specs.declared.var.Operand.TheVariants.{Const}
 use Rattle.settle.specs.declared.Outcome.{Outcome}
-use Rattle.widen.specs.declared.simple.Simple.{Simple}
 use Rattle.widen.specs.declared.simple.Simple.TheVariants.{Stays, Dropped, Copies}
 use Rattle.simplify.specs.Simplify.{simple_by}
-use borrow.Author.Rules.{rules}
 use Rattle.simplify.proofs.outcome.Goals as goal
 
 pub returns-in-Stays : goal.returns-in-Stays

@@ -1,5 +1,4 @@
-use native.Mathlib.Omega.{arith}
-use mathlib.Core.Path.{◌≡◌, refl, sym, ◌∙◌, ap, subst}
+use mathlib.Core.Path.{sym, ◌∙◌, ap, subst}
 use Prim.Native.Nat.{ℕ}
 use mathlib.Core.List.{List}
 use lib.ListN.{length}
@@ -7,7 +6,6 @@ use Rattle.pcode.specs.declared.var.Output.{Output}
 use Rattle.eval.specs.Operand.{bits_of}
 use Rattle.const_eval.specs.State.{state_of}
 use Rattle.simplify.specs.Simplify.{plain_of, InOutput}
-use borrow.Author.Rules.{rules}
 use Rattle.simplify.proofs.plain.Goals as goal
 
 pub write-requires : goal.write-requires

@@ -1,10 +1,7 @@
 use native.Mathlib.Omega.{arith}
-use mathlib.Core.Path.{◌≡◌, refl, sym, ◌∙◌, ap, subst}
-use lib.ListN.{length}
 use Rattle.const_eval.specs.State.{state_of}
 use Rattle.simplify.proofs.Grows.{able_le, second_ready}
 use Rattle.simplify.proofs.Floors.{prepares_of}
-use borrow.Author.Rules.{rules}
 use Rattle.simplify.proofs.prepare.Goals as goal
 
 pub operand-x-requires : goal.operand-x-requires

@@ -1,5 +1,5 @@
 use native.Mathlib.Omega.{arith}
-use mathlib.Core.Path.{◌≡◌, refl, sym, ◌∙◌, ap, subst}
+use mathlib.Core.Path.{◌≡◌, sym, ◌∙◌, ap}
 use Prim.Native.Nat.{ℕ}
 use mathlib.Core.List.{List}
 use lib.ListN.{length}
@@ -10,10 +10,9 @@ use Rattle.const_eval.specs.State.{state_of}
 use Rattle.widen.specs.Simple.{jump_of, exit_of}
 use Rattle.widen.specs.declared.simple.Simple.{Simple}
 use Rattle.widen.specs.declared.turn.Turn.{Turn}
-use Rattle.simplify.specs.Simplify.{turned, Change, Rows}
+use Rattle.simplify.specs.Simplify.{turned, Rows}
 use Rattle.simplify.proofs.Grows.{both_ready, able_le, rows_of}
 use Rattle.simplify.proofs.Floors.{simplify_close}
-use borrow.Author.Rules.{rules}
 use Rattle.simplify.proofs.simplify.Goals as goal
 
 pub plain-requires : goal.plain-requires

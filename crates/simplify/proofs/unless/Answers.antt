@@ -1,9 +1,7 @@
-use native.Mathlib.Omega.{arith}
-use mathlib.Core.Path.{◌≡◌, refl, sym, ◌∙◌, ap, subst}
+use mathlib.Core.Path.{sym, ap}
 use mathlib.Core.Bool.{Bool}
 use Rattle.pcode.specs.Var.{pick}
 use Rattle.widen.specs.declared.simple.Simple.TheVariants.{Stays}
-use borrow.Author.Rules.{rules}
 use Rattle.simplify.proofs.unless.Goals as goal
 
 pub returns-then-effects : goal.returns-then-effects

@@ -1,14 +1,12 @@
 use native.Mathlib.Omega.{arith}
-use mathlib.Core.Path.{◌≡◌, refl, sym, ◌∙◌, ap, subst}
-use Prim.Native.Nat.{ℕ, ◌*◌, ◌+◌, ◌≤◌}
+use mathlib.Core.Path.{◌≡◌, sym, ◌∙◌}
+use Prim.Native.Nat.{ℕ, ◌*◌}
 use mathlib.Core.List.{List}
-use lib.ListN.{length, take}
+use lib.ListN.{length}
 use lib.Seq.{length-take-le}
 use Rattle.eval.specs.Operand.{bits_of}
 use Rattle.const_eval.specs.State.{state_of}
-use Rattle.uses.specs.Operands.{place_of}
 use Rattle.simplify.proofs.Floors.{write_of_lem, write_room, write_ready, write_size, front_length}
-use borrow.Author.Rules.{rules}
 use Rattle.simplify.proofs.write.Goals as goal
 
 pub first_use-u-requires : goal.first_use-u-requires

@@ -1,13 +1,10 @@
-use native.Mathlib.Omega.{arith}
-use Prim.Native.Nat.{ℕ, ◌+◌, ◌*◌, ◌-◌, ◌/◌, ◌%◌, ◌^◌, ◌<◌, ◌≤◌}
-use native.Mathlib.Numerals.{add-one}
-use mathlib.Core.Path.{◌≡◌, refl, sym, ap, ◌∙◌, subst}
-use mathlib.Core.List.{List, [], ◌++◌}
-use lib.Dec.{lit<}
-use lib.ListN.{length, take, drop, get_or, replicate}
-use lib.Seq.{paste, paste-zero, paste-suc}
+use Prim.Native.Nat.{ℕ}
+use mathlib.Core.Path.{refl, sym, ap, ◌∙◌}
+use mathlib.Core.List.{List}
+use lib.ListN.{replicate}
+use lib.Seq.{paste}
 use Rattle.wide.specs.Value.{value_of}
-use Rattle.state.specs.Bytes.{num_of, bytes_of}
+use Rattle.state.specs.Bytes.{bytes_of}
 use Rattle.state.proofs.Digits.{two_parts, laid, bytes_length}
 use borrow.Author.Rules.{rules}
 use Rattle.state.proofs.bytes.Goals as goal

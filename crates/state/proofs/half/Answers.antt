@@ -1,14 +1,10 @@
 use borrow.Author.Rules.{rules}
 use native.Mathlib.Omega.{arith}
-use Prim.Native.Nat.{ℕ, ◌+◌, ◌*◌, ◌-◌, ◌/◌, ◌%◌, ◌^◌, ◌<◌, ◌≤◌, suc}
-use native.Mathlib.Numerals.{add-one}
-use mathlib.Core.Path.{◌≡◌, refl, sym, ap, ◌∙◌, subst}
-use mathlib.Core.List.{List, [], ◌++◌}
+use Prim.Native.Nat.{ℕ, ◌+◌, ◌*◌, ◌-◌, ◌^◌, ◌<◌, suc}
+use mathlib.Core.Path.{◌≡◌, sym, ap, ◌∙◌, subst}
 use lib.Dec.{lit<}
-use lib.ListN.{length, take, drop, get_or, replicate}
-use lib.Seq.{paste, paste-zero, paste-suc}
-use Rattle.wide.specs.Value.{value_of}
-use Rattle.state.specs.Bytes.{num_of, bytes_of}
+use lib.ListN.{length, take, drop}
+use Rattle.state.specs.Bytes.{num_of}
 use Rattle.state.proofs.Digits.{nothing, grows, fits_half, next_down}
 use Rattle.state.proofs.half.Goals as goal
 

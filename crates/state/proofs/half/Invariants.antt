@@ -1,15 +1,7 @@
-use borrow.Author.Rules.{rules}
-use native.Mathlib.Omega.{arith}
-use Prim.Native.Nat.{ℕ, ◌+◌, ◌*◌, ◌-◌, ◌/◌, ◌%◌, ◌^◌, ◌<◌, ◌≤◌, suc}
-use native.Mathlib.Numerals.{add-one}
-use mathlib.Core.Path.{◌≡◌, refl, sym, ap, ◌∙◌, subst}
-use mathlib.Core.List.{List, [], ◌++◌}
-use lib.Dec.{lit<}
-use lib.ListN.{length, take, drop, get_or, replicate}
-use lib.Seq.{paste, paste-zero, paste-suc}
-use Rattle.wide.specs.Value.{value_of}
-use Rattle.state.specs.Bytes.{num_of, bytes_of}
-use Rattle.state.proofs.Digits.{nothing, grows, fits_half, next_down}
+use Prim.Native.Nat.{◌+◌, ◌-◌, ◌^◌, ◌<◌, ◌≤◌}
+use mathlib.Core.Path.{◌≡◌}
+use lib.ListN.{take, drop}
+use Rattle.state.specs.Bytes.{num_of}
 use Rattle.state.proofs.half.Given as goal
 
 abbrev pub invariant-loop-i : goal.invariant-loop-i

@@ -1,13 +1,10 @@
 use native.Mathlib.Omega.{arith}
-use Prim.Native.Nat.{ℕ, ◌+◌, ◌*◌, ◌-◌, ◌/◌, ◌%◌, ◌^◌, ◌<◌, ◌≤◌}
-use native.Mathlib.Numerals.{add-one}
-use mathlib.Core.Path.{◌≡◌, refl, sym, ap, ◌∙◌, subst}
-use mathlib.Core.List.{List, [], ◌++◌}
-use lib.Dec.{lit<}
-use lib.ListN.{length, take, drop, get_or, replicate, length-drop}
-use lib.Seq.{paste, paste-zero, paste-suc}
+use Prim.Native.Nat.{ℕ, ◌+◌, ◌*◌, ◌-◌, ◌^◌}
+use mathlib.Core.Path.{◌≡◌, sym, ap, ◌∙◌}
+use mathlib.Core.List.{List}
+use lib.ListN.{length, take, drop, length-drop}
 use Rattle.wide.specs.Value.{value_of}
-use Rattle.state.specs.Bytes.{num_of, bytes_of}
+use Rattle.state.specs.Bytes.{num_of}
 use native.Mathlib.Nat.{add-zero}
 use lib.Seq.{drop-drop}
 use Rattle.state.proofs.Digits.{split_at}

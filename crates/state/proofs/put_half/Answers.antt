@@ -1,14 +1,11 @@
 use borrow.Author.Rules.{rules}
 use native.Mathlib.Omega.{arith}
-use Prim.Native.Nat.{ℕ, ◌+◌, ◌*◌, ◌-◌, ◌/◌, ◌%◌, ◌^◌, ◌<◌, ◌≤◌}
+use Prim.Native.Nat.{ℕ, ◌/◌, ◌%◌, ◌^◌}
 use native.Mathlib.Numerals.{add-one}
-use mathlib.Core.Path.{◌≡◌, refl, sym, ap, ◌∙◌, subst}
-use mathlib.Core.List.{List, [], ◌++◌}
-use lib.Dec.{lit<}
-use lib.ListN.{length, take, drop, get_or, replicate}
+use mathlib.Core.Path.{◌≡◌, sym, ap, ◌∙◌}
+use lib.ListN.{length, get_or}
 use lib.Seq.{paste, paste-zero, paste-suc}
-use Rattle.wide.specs.Value.{value_of}
-use Rattle.state.specs.Bytes.{num_of, bytes_of}
+use Rattle.state.specs.Bytes.{bytes_of}
 use native.Mathlib.Nat.{div-div-eq-div-mul, pow-succ', mul_comm, div-one}
 use Rattle.state.proofs.Digits.{byte_at, bytes_length}
 use Rattle.state.proofs.put_half.Goals as goal

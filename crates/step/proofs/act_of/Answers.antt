@@ -1,6 +1,5 @@
 use mathlib.Core.Path.{sym, ap}
 use Rattle.step.specs.Steps.{act_of}
-use borrow.Author.Rules.{rules}
 use Rattle.step.proofs.act_of.Goals as goal
 
 pub returns-in-PcodeBranch : goal.returns-in-PcodeBranch

@@ -2,7 +2,6 @@ use mathlib.Core.Path.{sym, ap, ◌∙◌}
 use Rattle.vars.specs.Vars.{held_ids}
 use Rattle.step.specs.Steps.{rows_after}
 use Rattle.step.specs.declared.Act.{Act}
-use borrow.Author.Rules.{rules}
 use Rattle.step.proofs.after.Goals as goal
 
 pub returns-in-Loads : goal.returns-in-Loads

@@ -3,7 +3,6 @@ use mathlib.Core.Path.{ap, ◌∙◌}
 use lib.ListN.{get_or}
 use Rattle.wide.specs.Value.{value_of}
 use Rattle.step.specs.Steps.{answer_at}
-use borrow.Author.Rules.{rules}
 use Rattle.step.proofs.answer_at.Goals as goal
 
 pub returns : goal.returns

@@ -4,7 +4,6 @@ use Rattle.pcode.specs.Var.{pick}
 use Rattle.wide.specs.Value.{value_of}
 use Rattle.step.specs.declared.Flow.{Flow}
 use Rattle.step.specs.declared.Flow.TheVariants.{Next, Jump}
-use borrow.Author.Rules.{rules}
 use Rattle.step.proofs.branch.Goals as goal
 
 pub returns-then-same : goal.returns-then-same

@@ -2,7 +2,6 @@ use mathlib.Core.Path.{sym, ap, ◌∙◌}
 use Rattle.wide.specs.Value.{value_of}
 use Rattle.step.specs.Steps.{flow_of}
 use Rattle.step.specs.declared.Act.{Act}
-use borrow.Author.Rules.{rules}
 use Rattle.step.proofs.flow_of.Goals as goal
 
 pub returns-in-Jumps : goal.returns-in-Jumps

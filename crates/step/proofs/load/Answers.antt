@@ -3,7 +3,6 @@ use mathlib.Core.Path.{ap, ◌∙◌}
 use Rattle.vars.specs.Vars.{held_ids}
 use Rattle.machine.specs.Values.{written}
 use Rattle.step.specs.Steps.{answer_at, loaded_rows}
-use borrow.Author.Rules.{rules}
 use Rattle.step.proofs.load.Goals as goal
 
 pub returns : goal.returns

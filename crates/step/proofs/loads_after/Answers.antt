@@ -1,7 +1,6 @@
 use mathlib.Core.Path.{sym, ap}
 use Rattle.step.specs.Steps.{loads_after}
 use Rattle.step.specs.declared.Act.{Act}
-use borrow.Author.Rules.{rules}
 use Rattle.step.proofs.loads_after.Goals as goal
 
 pub returns-in-Loads : goal.returns-in-Loads

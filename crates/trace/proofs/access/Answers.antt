@@ -1,7 +1,6 @@
 use native.Mathlib.Omega.{arith}
 use Rattle.print.proofs.Writes.{then}
 use Rattle.trace.specs.Words.{access_words}
-use borrow.Author.Rules.{rules}
 use Rattle.trace.proofs.access.Goals as goal
 
 pub returns : goal.returns

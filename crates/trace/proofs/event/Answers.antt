@@ -7,7 +7,6 @@ use Rattle.step.specs.Steps.{events_of}
 use Rattle.step.specs.declared.Act.{Act}
 use Rattle.trace.specs.Words.{trace_words}
 use Rattle.trace.proofs.Words.{no_words, load_words, store_words, marker_words}
-use borrow.Author.Rules.{rules}
 use Rattle.trace.proofs.event.Goals as goal
 
 pub returns-in-Nothing : goal.returns-in-Nothing

@@ -9,7 +9,6 @@ use Rattle.print.proofs.Writes.{then, none, retold}
 use Rattle.step.specs.Events.{Taken}
 use Rattle.trace.specs.Words.{trace_words}
 use Rattle.trace.proofs.Words.{no_words, exit_words}
-use borrow.Author.Rules.{rules}
 use Rattle.trace.proofs.exit.Goals as goal
 
 pub returns-then-same : goal.returns-then-same

@@ -7,7 +7,6 @@ use Rattle.pcode.specs.Var.{pick}
 use Rattle.state.specs.Bytes.{num_of}
 use Rattle.print.proofs.Writes.{none, retold}
 use Rattle.trace.specs.Words.{halves}
-use borrow.Author.Rules.{rules}
 use Rattle.trace.proofs.row.Goals as goal
 
 pub returns-then-lasting : goal.returns-then-lasting

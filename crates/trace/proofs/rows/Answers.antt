@@ -1,6 +1,6 @@
 use borrow.Author.Rules.{rules}
 use native.Mathlib.Omega.{arith}
-use Prim.Native.Nat.{ℕ, ◌+◌, ◌*◌, ◌-◌, ◌≤◌}
+use Prim.Native.Nat.{ℕ, ◌*◌}
 use lib.IntN.{pos}
 use mathlib.Core.Bool.{Bool}
 use mathlib.Core.List.{[], ◌++◌}
@@ -8,7 +8,6 @@ use mathlib.Core.Path.{◌≡◌, ap, ◌∙◌}
 use lib.ListN.{length, take, get_or}
 use Rattle.pcode.specs.Var.{pick}
 use Rattle.state.specs.Bytes.{num_of}
-use Rattle.print.specs.Texts.{Wrote}
 use Rattle.print.proofs.Writes.{then, none, retold}
 use Rattle.trace.specs.Words.{halves, lasting_words}
 use Rattle.trace.proofs.Words.{lasting_none, lasting_more}

@@ -1,17 +1,7 @@
-use borrow.Author.Rules.{rules}
-use native.Mathlib.Omega.{arith}
-use Prim.Native.Nat.{ℕ, ◌+◌, ◌*◌, ◌-◌, ◌≤◌}
-use lib.IntN.{pos}
-use mathlib.Core.Bool.{Bool}
-use mathlib.Core.List.{[], ◌++◌}
-use mathlib.Core.Path.{◌≡◌, ap, ◌∙◌}
-use lib.ListN.{length, take, get_or}
-use Rattle.pcode.specs.Var.{pick}
-use Rattle.state.specs.Bytes.{num_of}
+use Prim.Native.Nat.{◌+◌, ◌*◌, ◌-◌, ◌≤◌}
+use lib.ListN.{length, take}
 use Rattle.print.specs.Texts.{Wrote}
-use Rattle.print.proofs.Writes.{then, none, retold}
-use Rattle.trace.specs.Words.{halves, lasting_words}
-use Rattle.trace.proofs.Words.{lasting_none, lasting_more}
+use Rattle.trace.specs.Words.{lasting_words}
 use Rattle.trace.proofs.rows.Given as goal
 
 abbrev pub invariant-loop-i : goal.invariant-loop-i

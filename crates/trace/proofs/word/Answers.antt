@@ -1,5 +1,4 @@
 use Rattle.print.proofs.Writes.{one}
-use borrow.Author.Rules.{rules}
 use Rattle.trace.proofs.word.Goals as goal
 
 pub returns : goal.returns

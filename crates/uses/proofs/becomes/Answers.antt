@@ -1,7 +1,5 @@
-use native.Mathlib.Omega.{arith}
-use mathlib.Core.Path.{◌≡◌, refl, sym, ◌∙◌, ap, subst}
+use mathlib.Core.Path.{sym, ◌∙◌}
 use Rattle.uses.proofs.Replaced.{becomes_known, becomes_open, found_fit}
-use borrow.Author.Rules.{rules}
 use Rattle.uses.proofs.becomes.Goals as goal
 
 pub given-requires : goal.given-requires

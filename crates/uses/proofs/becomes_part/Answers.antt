@@ -1,15 +1,12 @@
 use Prim.Native.Nat.{◌*◌}
-use native.Mathlib.Omega.{arith}
-use mathlib.Core.Path.{◌≡◌, refl, sym, ◌∙◌, ap, subst}
 use mathlib.Core.List.{List}
 use Prim.Native.Nat.{ℕ}
 use Rattle.bit_vec.specs.Lists.{bits}
 use Rattle.bit_vec.specs.Known.{const_of}
 use Rattle.const_eval.specs.Map.{entries, lookup_of}
-use Rattle.const_eval.specs.Known.{start_of, part_of}
+use Rattle.const_eval.specs.Known.{start_of}
 use Rattle.const_eval.proofs.Parts.{of_slice}
 use Rattle.uses.specs.Operands.{becomes_by}
-use borrow.Author.Rules.{rules}
 use Rattle.uses.proofs.becomes_part.Goals as goal
 
 pub returns : goal.returns

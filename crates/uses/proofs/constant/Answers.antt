@@ -1,9 +1,8 @@
-use native.Mathlib.Omega.{arith}
-use mathlib.Core.Path.{◌≡◌, refl, sym, ◌∙◌, ap, subst}
+use mathlib.Core.Path.{sym, ◌∙◌, ap}
 use mathlib.Core.List.{List, ◌++◌}
 use Prim.Native.Nat.{ℕ, ◌*◌}
-use lib.ListN.{length, take, drop}
-use lib.Seq.{length-take-le, take_at}
+use lib.ListN.{length, drop}
+use lib.Seq.{length-take-le}
 use Rattle.bit_vec.specs.Lists.{bits, codes}
 use Rattle.bit_vec.specs.Moves.{digits}
 use Rattle.bit_vec.specs.Known.{const_of}
@@ -11,7 +10,6 @@ use Rattle.const_eval.specs.Map.{entries, lookup_of}
 use Rattle.pcode.specs.declared.var.Operand.TheVariants.{Const}
 use Rattle.uses.specs.Operands.{becomes_by}
 use Rattle.uses.proofs.Replaced.{const_codes, const_prefix}
-use borrow.Author.Rules.{rules}
 use Rattle.uses.proofs.constant.Goals as goal
 
 pub slice_bounds-set_const-end-2 : goal.slice_bounds-set_const-end-2

@@ -1,9 +1,7 @@
-use native.Mathlib.Omega.{arith}
-use mathlib.Core.Path.{◌≡◌, refl, sym, ◌∙◌, ap, subst}
+use mathlib.Core.Path.{sym, ◌∙◌, ap, subst}
 use Rattle.pcode.specs.declared.var.Operand.TheVariants.{Var}
 use Rattle.const_eval.specs.declared.map.Found.{Found}
 use Rattle.uses.specs.Operands.{given_of, FoundFit}
-use borrow.Author.Rules.{rules}
 use Rattle.uses.proofs.given.Goals as goal
 
 pub node-requires : goal.node-requires

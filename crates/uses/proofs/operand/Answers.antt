@@ -1,12 +1,11 @@
 use native.Mathlib.Omega.{arith}
-use mathlib.Core.Path.{◌≡◌, refl, sym, ◌∙◌, ap, subst}
-use Prim.Native.Nat.{ℕ, ◌≤◌}
+use mathlib.Core.Path.{◌≡◌, subst}
+use Prim.Native.Nat.{◌≤◌}
 use lib.ListN.{length}
 use Rattle.pcode.specs.declared.var.Operand.{Operand}
 use Rattle.const_eval.specs.State.{state_of}
 use Rattle.uses.specs.Operands.{InOperand}
 use Rattle.uses.proofs.Replaced.{good_looks, uses_none, uses_const, uses_var}
-use borrow.Author.Rules.{rules}
 use Rattle.uses.proofs.operand.Goals as goal
 
 pub constant-value-requires : goal.constant-value-requires

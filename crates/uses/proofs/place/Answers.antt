@@ -1,8 +1,5 @@
-use native.Mathlib.Omega.{arith}
-use mathlib.Core.Path.{◌≡◌, refl, sym, ◌∙◌, ap, subst}
+use mathlib.Core.Path.{ap}
 use Prim.Native.Nat.{ℕ}
-use Rattle.const_eval.specs.declared.place.Place.{Place}
-use borrow.Author.Rules.{rules}
 use Rattle.uses.proofs.place.Goals as goal
 
 pub returns : goal.returns

@@ -1,16 +1,13 @@
 use native.Mathlib.Omega.{arith}
-use mathlib.Core.Path.{◌≡◌, refl, sym, ◌∙◌, ap, subst}
-use mathlib.Core.List.{List}
-use Prim.Native.Nat.{ℕ, ◌<◌, ◌≤◌}
+use mathlib.Core.Path.{◌≡◌, sym, ◌∙◌, ap, subst}
+use Prim.Native.Nat.{◌<◌, ◌≤◌}
 use lib.ListN.{length}
 use Rattle.const_eval.specs.declared.place.Place.{Place}
-use Rattle.const_eval.specs.Known.{Fit}
-use Rattle.const_eval.specs.State.{State, state_of, Room, first_use}
+use Rattle.const_eval.specs.State.{state_of, Room, first_use}
 use Rattle.const_eval.proofs.Keeps.{able_room}
 use Rattle.eval.specs.declared.operand.Slot.TheVariants as Slots
 use Rattle.uses.specs.Operands.{place_of}
 use Rattle.uses.proofs.Replaced.{use_after, var_value}
-use borrow.Author.Rules.{rules}
 use Rattle.uses.proofs.variable.Goals as goal
 
 pub first_use-u-requires : goal.first_use-u-requires

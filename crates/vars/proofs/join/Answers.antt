@@ -1,16 +1,12 @@
-use native.Mathlib.Omega.{arith}
 use borrow.Author.Tests.{lt-ltb, le-ltb}
-use mathlib.Core.Path.{sym, ap, ◌∙◌}
+use mathlib.Core.Path.{sym, ap}
 use mathlib.Core.List.{List}
-use lib.IntN.{ℤ}
-use lib.ListN.{set}
 use mir.Syntax.{w16}
 use mir.Facts.{to_z-of_z}
 use Rattle.pcode.specs.declared.var.VarId.{VarId}
-use Rattle.vars.specs.Vars.{joined, as_id, as_ids}
+use Rattle.vars.specs.Vars.{joined, as_id}
 use Rattle.vars.proofs.Joining.{map_set}
 use Prim.Native.Nat.{◌+◌}
-use borrow.Author.Rules.{rules}
 use Rattle.vars.proofs.join.Goals as goal
 
 pub returns-then-cap-n : goal.returns-then-cap-n

@@ -1,8 +1,6 @@
-use native.Mathlib.Omega.{arith}
 use mathlib.Core.Path.{sym, ap, ◌∙◌}
 use Rattle.pcode.specs.declared.var.Operand.{Operand}
 use Rattle.vars.specs.Vars.{joined_all, ids_in, under}
-use borrow.Author.Rules.{rules}
 use Rattle.vars.proofs.join_operand.Goals as goal
 
 pub returns-in-None : goal.returns-in-None

@@ -1,11 +1,8 @@
-use native.Mathlib.Omega.{arith}
-use mathlib.Core.Path.{◌≡◌, sym, ap, ◌∙◌}
-use Rattle.pcode.specs.Var.{as_operand}
+use mathlib.Core.Path.{ap, ◌∙◌}
 use Rattle.pcode.specs.declared.var.Operand.{Operand}
 use Rattle.vars.specs.declared.Vars.{Vars}
-use Rattle.vars.specs.Vars.{joined_all, ids_in, ids_of, under}
+use Rattle.vars.specs.Vars.{joined_all, ids_in, under}
 use Rattle.vars.proofs.Joining.{all_append, under_long}
-use borrow.Author.Rules.{rules}
 use Rattle.vars.proofs.join_stmt.Goals as goal
 
 pub join_operand-b-requires : goal.join_operand-b-requires

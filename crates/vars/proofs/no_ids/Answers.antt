@@ -1,5 +1,3 @@
-use borrow.Author.Rules.{rules}
-use native.Mathlib.Omega.{arith}
 use mathlib.Core.Path.{refl}
 use Rattle.vars.specs.Vars.{no_ids}
 use Rattle.vars.proofs.no_ids.Goals as goal

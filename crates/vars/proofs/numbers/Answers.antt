@@ -1,11 +1,10 @@
 use borrow.Author.Rules.{rules}
 use native.Mathlib.Omega.{arith}
-use Prim.Native.Nat.{ℕ, ◌≤◌, ◌<◌, ◌-◌, ◌+◌}
-use mathlib.Core.Path.{◌≡◌, refl, sym, ◌∙◌, ap}
-use mathlib.Core.List.{List, ◌++◌, append-nil}
-use lib.ListN.{length, take, drop, get_or, set, length-map, drop_of_length-le}
+use mathlib.Core.Path.{◌≡◌, refl, ◌∙◌}
+use mathlib.Core.List.{append-nil}
+use lib.ListN.{length, get_or, length-map, drop_of_length-le}
 use lib.Seq.{take-length}
-use lib.IntN.{ℤ, pos}
+use lib.IntN.{pos}
 use mir.Syntax.{w16}
 use mir.Facts.{to_z-of_z}
 use Rattle.vars.specs.Vars.{as_id, as_ids}

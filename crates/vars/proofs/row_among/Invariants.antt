@@ -1,17 +1,7 @@
-use borrow.Author.Rules.{rules}
-use native.Mathlib.Omega.{arith}
-use Prim.Native.Nat.{ℕ, ◌≤◌, ◌<◌, ◌-◌, ◌+◌, min}
-use mathlib.Core.Path.{◌≡◌, refl, sym, ◌∙◌, ap}
-use mathlib.Core.Bool.{Bool, true, false}
-use lib.ListN.{length, take, drop, get_or, length-take, length-map, get_or-map}
-use lib.Seq.{get_or-take}
-use lib.IntN.{ℤ, pos}
-use mir.Syntax.{w16}
-use mir.Facts.{to_z-of_z}
-use Rattle.pcode.specs.Var.{same_id}
-use Rattle.pcode.specs.declared.var.VarId.{VarId}
-use Rattle.vars.specs.Vars.{row_of, as_id, as_ids}
-use Rattle.vars.proofs.Rows.{row_end, row_found, row_passed}
+use Prim.Native.Nat.{◌≤◌, ◌-◌, ◌+◌}
+use mathlib.Core.Path.{◌≡◌}
+use lib.ListN.{take, drop}
+use Rattle.vars.specs.Vars.{row_of, as_ids}
 use Rattle.vars.proofs.row_among.Given as goal
 
 abbrev pub invariant-loop-i : goal.invariant-loop-i

@@ -1,14 +1,11 @@
 use borrow.Author.Rules.{rules}
 use native.Mathlib.Omega.{arith}
-use Prim.Native.Nat.{ℕ, ◌≤◌, ◌<◌, ◌-◌, ◌+◌, min}
-use mathlib.Core.Path.{◌≡◌, refl, sym, ◌∙◌, ap}
-use mathlib.Core.List.{List, ◌++◌}
-use lib.ListN.{length, take, drop, get_or, set, length-take, length-map, get_or-map}
-use lib.IntN.{ℤ, pos}
+use mathlib.Core.Path.{◌≡◌, sym, ◌∙◌, ap}
+use lib.ListN.{length, take, length-take, length-map, get_or-map}
+use lib.IntN.{pos}
 use mir.Syntax.{w16}
 use mir.Facts.{to_z-of_z}
-use Rattle.pcode.specs.declared.var.VarId.{VarId}
-use Rattle.vars.specs.Vars.{no_ids, as_id, as_ids, table_of}
+use Rattle.vars.specs.Vars.{no_ids, as_id, as_ids}
 use Rattle.vars.proofs.Joining.{copy_more, no_ids_length}
 use Rattle.vars.proofs.table.Goals as goal
 

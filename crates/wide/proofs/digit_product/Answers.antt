@@ -1,5 +1,4 @@
-use Rattle.std.proofs.Common.{◌≡◌, ℕ, ◌+◌, ◌-◌, ◌*◌, ◌/◌, ◌%◌, ◌^◌, ◌<◌, ◌≤◌, sym, refl, ap, ◌∙◌, subst, arith, lit<, lit≤, rules}
-use Rattle.wide.specs.Value.{value_of}
+use Rattle.std.proofs.Common.{◌^◌}
 use Rattle.wide.proofs.Products.{product_below}
 use Rattle.wide.proofs.digit_product.Goals as goal
 

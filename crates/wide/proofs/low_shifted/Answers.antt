@@ -1,7 +1,4 @@
-use Rattle.std.proofs.Common.{◌≡◌, ℕ, ◌+◌, ◌-◌, ◌*◌, ◌/◌, ◌%◌, ◌^◌, ◌<◌, ◌≤◌, sym, refl, ap, ◌∙◌, subst, le_trans, lt_of_lt_of_le, mod-lt, mod-eq_of_lt, one-mul, div-one, arith, lit<, lit≤, pow_pos, pow_mono, pow-add, w64, Fits, rules}
-use native.Mathlib.Nat.{div-eq_of_lt}
-use lib.Pow.{pow-lt}
-use Rattle.wide.specs.Value.{value_of}
+use Rattle.std.proofs.Common.{ℕ, ◌+◌, ◌-◌, ◌*◌, ◌/◌, ◌%◌, ◌^◌, ◌<◌, sym, subst, arith, lit<, pow_pos, rules}
 use Rattle.wide.proofs.Halves.{fits_low}
 use Rattle.wide.proofs.Powers.{split_64}
 use Rattle.wide.proofs.low_shifted.Goals as goal

@@ -1,7 +1,5 @@
-use Rattle.std.proofs.Common.{◌≡◌, ℕ, ◌+◌, ◌-◌, ◌*◌, ◌/◌, ◌%◌, ◌^◌, ◌<◌, ◌≤◌, sym, refl, ap, ◌∙◌, subst, le_trans, lt_of_lt_of_le, mod-lt, mod-eq_of_lt, one-mul, div-one, arith, lit<, lit≤, pow_pos, pow_mono, pow-add, rules}
-use native.Mathlib.Nat.{div-eq_of_lt}
+use Rattle.std.proofs.Common.{mod-eq_of_lt, one-mul, arith}
 use lib.Pow.{pow-lt}
-use Rattle.wide.specs.Value.{value_of}
 use Rattle.wide.proofs.power.Goals as goal
 
 pub returns : goal.returns

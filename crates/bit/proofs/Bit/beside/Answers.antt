@@ -1,4 +1,3 @@
-use borrow.Author.Rules.{rules}
 use Rattle.bit.proofs.Bit.beside.Goals as goal
 
 pub returns-in-Zero : goal.returns-in-Zero

@@ -1,6 +1,5 @@
 use Rattle.bit.specs.Bits.{bit_of}
 use borrow.Author.Tests.{eq-eqb, ne_eqb, lt-ltb, le-ltb}
-use borrow.Author.Rules.{rules}
 use Rattle.bit.proofs.Bit.decode.Goals as goal
 
 pub returns-then-n-eq0 : goal.returns-then-n-eq0

@@ -1,5 +1,4 @@
 use native.Mathlib.Omega.{arith}
-use borrow.Author.Rules.{rules}
 use Rattle.bit.proofs.Expr.encode.Goals as goal
 
 pub returns-then-self : goal.returns-then-self

@@ -1,10 +1,7 @@
 use borrow.Author.Rules.{rules}
 use native.Mathlib.Omega.{arith}
-use Prim.Native.Nat.{◌≤◌, ◌+◌, ◌-◌}
-use mathlib.Core.Path.{◌≡◌, ◌∙◌, ap}
-use lib.ListN.{length, drop}
-use Rattle.bit_vec.specs.Lists.{bits, value_of}
-use Rattle.bit_vec.specs.Known.{trailing_zeros}
+use mathlib.Core.Path.{◌∙◌, ap}
+use Rattle.bit_vec.specs.Lists.{value_of}
 use Rattle.bit_vec.proofs.Fold.{trail_more, trail_stop, trail_all}
 use Rattle.bit_vec.proofs.known.known_trailing_zeros.Goals as goal
 

@@ -1,11 +1,8 @@
-use borrow.Author.Rules.{rules}
-use native.Mathlib.Omega.{arith}
 use Prim.Native.Nat.{◌≤◌, ◌+◌, ◌-◌}
-use mathlib.Core.Path.{◌≡◌, ◌∙◌, ap}
+use mathlib.Core.Path.{◌≡◌}
 use lib.ListN.{length, drop}
-use Rattle.bit_vec.specs.Lists.{bits, value_of}
+use Rattle.bit_vec.specs.Lists.{bits}
 use Rattle.bit_vec.specs.Known.{trailing_zeros}
-use Rattle.bit_vec.proofs.Fold.{trail_more, trail_stop, trail_all}
 use Rattle.bit_vec.proofs.known.known_trailing_zeros.Given as goal
 
 abbrev pub invariant-loop-i : goal.invariant-loop-i

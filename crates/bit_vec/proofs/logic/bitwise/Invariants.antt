@@ -1,7 +1,5 @@
-use borrow.Author.Rules.{rules}
-use Rattle.bit_vec.proofs.Store.{Walked, walk_begin, walk_turn, walk_done}
+use Rattle.bit_vec.proofs.Store.{Walked}
 use Rattle.bit_vec.specs.Lists.{logic_b, each, still}
-use mathlib.Core.Path.{refl}
 use lib.ListN.{length}
 use Prim.Native.Nat.{◌-◌}
 use Rattle.bit_vec.proofs.logic.bitwise.Given as goal

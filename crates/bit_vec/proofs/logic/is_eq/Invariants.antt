@@ -1,11 +1,7 @@
-use borrow.Author.Rules.{rules}
-use native.Mathlib.Omega.{arith}
-use mathlib.Core.Logic.{⊎_elim}
 use Prim.Native.Nat.{◌≤◌, ◌-◌}
-use mathlib.Core.Path.{◌≡◌, ◌∙◌, sym}
+use mathlib.Core.Path.{◌≡◌}
 use lib.ListN.{length, drop}
 use Rattle.bit_vec.specs.Lists.{bits, eq_from, eq_bits}
-use Rattle.bit_vec.proofs.Fold.{unequal, undecided, equal, few, many, eq_end}
 use Rattle.bit_vec.proofs.logic.is_eq.Given as goal
 
 abbrev pub invariant-loop-i : goal.invariant-loop-i

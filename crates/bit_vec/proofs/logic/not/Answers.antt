@@ -1,12 +1,8 @@
-use borrow.Author.Rules.{rules}
 use native.Mathlib.Omega.{arith}
-use Rattle.bit_vec.proofs.Store.{Stored, begin, place_turn, place_done, here}
+use Rattle.bit_vec.proofs.Store.{begin, place_turn, place_done, here}
 use Rattle.bit_vec.proofs.Moved.{length_not, not_at}
-use Rattle.bit_vec.specs.Lists.{bits, codes}
-use Rattle.bit.specs.Bits.{not_b}
-use mathlib.Core.List.{map}
-use lib.ListN.{length, drop}
-use Prim.Native.Nat.{◌-◌, ◌<◌}
+use lib.ListN.{length}
+use Prim.Native.Nat.{◌<◌}
 use Rattle.bit_vec.proofs.logic.not.Goals as goal
 
 pub loop-i-init : goal.loop-i-init

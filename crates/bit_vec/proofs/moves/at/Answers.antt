@@ -1,7 +1,6 @@
 use Rattle.bit_vec.proofs.Moved.{get_d_in}
 use lib.ListN.{get_or-eq_default}
 use mathlib.Core.Path.{sym}
-use borrow.Author.Rules.{rules}
 use Rattle.bit_vec.proofs.moves.at.Goals as goal
 
 pub returns-then-i-s : goal.returns-then-i-s

@@ -1,11 +1,9 @@
-use borrow.Author.Rules.{rules}
 use native.Mathlib.Omega.{arith}
-use Rattle.bit_vec.proofs.Store.{Stored, begin, place_turn, place_done}
+use Rattle.bit_vec.proofs.Store.{begin, place_turn, place_done}
 use Rattle.bit_vec.proofs.Moved.{length_fit, fit_at}
-use Rattle.bit_vec.specs.Moves.{fit}
 use mathlib.Core.Path.{◌∙◌}
-use lib.ListN.{length, drop}
-use Prim.Native.Nat.{◌-◌, ◌<◌}
+use lib.ListN.{length}
+use Prim.Native.Nat.{◌<◌}
 use Rattle.bit_vec.proofs.moves.copy_any.Goals as goal
 
 pub loop-i-init : goal.loop-i-init

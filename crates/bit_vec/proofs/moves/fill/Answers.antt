@@ -1,4 +1,3 @@
-use borrow.Author.Rules.{rules}
 use Rattle.bit_vec.proofs.moves.fill.Goals as goal
 
 pub returns : goal.returns

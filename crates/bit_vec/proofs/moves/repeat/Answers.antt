@@ -1,9 +1,8 @@
-use borrow.Author.Rules.{rules}
 use native.Mathlib.Omega.{arith}
-use Rattle.bit_vec.proofs.Store.{Stored, begin, place_turn, place_done}
-use lib.ListN.{length, drop, replicate, length-replicate, get_or-replicate}
+use Rattle.bit_vec.proofs.Store.{begin, place_turn, place_done}
+use lib.ListN.{length, length-replicate, get_or-replicate}
 use mathlib.Core.Path.{sym}
-use Prim.Native.Nat.{◌-◌, ◌<◌}
+use Prim.Native.Nat.{◌<◌}
 use Rattle.bit_vec.proofs.moves.repeat.Goals as goal
 
 pub loop-i-init : goal.loop-i-init

@@ -1,9 +1,6 @@
-use borrow.Author.Rules.{rules}
-use native.Mathlib.Omega.{arith}
-use Rattle.bit_vec.proofs.Store.{Stored, begin, place_turn, place_done}
-use lib.ListN.{length, drop, replicate, length-replicate, get_or-replicate}
-use mathlib.Core.Path.{sym}
-use Prim.Native.Nat.{◌-◌, ◌<◌}
+use Rattle.bit_vec.proofs.Store.{Stored}
+use lib.ListN.{length, drop, replicate}
+use Prim.Native.Nat.{◌-◌}
 use Rattle.bit_vec.proofs.moves.repeat.Given as goal
 
 abbrev pub invariant-loop-i : goal.invariant-loop-i

@@ -2,7 +2,6 @@ use native.Mathlib.Omega.{arith}
 use Rattle.bit_vec.proofs.Moved.{truth_none, truth_set}
 use lib.ListN.{length}
 use Prim.Native.Nat.{◌<◌}
-use borrow.Author.Rules.{rules}
 use Rattle.bit_vec.proofs.moves.set_bool.Goals as goal
 
 pub returns-then-out-eq0 : goal.returns-then-out-eq0

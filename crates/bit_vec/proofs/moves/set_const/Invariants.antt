@@ -1,12 +1,9 @@
-use borrow.Author.Rules.{rules}
-use native.Mathlib.Omega.{arith}
-use Rattle.bit_vec.proofs.Store.{Stored, begin, place_turn, place_done}
-use Rattle.bit_vec.proofs.Moved.{digits_at, length_number, halved}
+use Rattle.bit_vec.proofs.Store.{Stored}
 use Rattle.bit_vec.specs.Moves.{digits}
 use Rattle.bit_vec.specs.Lists.{codes}
 use mathlib.Core.Path.{◌≡◌}
 use lib.ListN.{length, drop}
-use Prim.Native.Nat.{◌-◌, ◌/◌, ◌^◌, ◌<◌}
+use Prim.Native.Nat.{◌-◌, ◌/◌, ◌^◌}
 use Rattle.bit_vec.proofs.moves.set_const.Given as goal
 
 abbrev pub invariant-loop-i : goal.invariant-loop-i

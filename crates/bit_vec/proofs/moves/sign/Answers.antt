@@ -1,5 +1,4 @@
 use Rattle.bit_vec.proofs.Moved.{last_at, last_none}
-use borrow.Author.Rules.{rules}
 use Rattle.bit_vec.proofs.moves.sign.Goals as goal
 
 pub returns-then-n-gt0 : goal.returns-then-n-gt0

@@ -1,9 +1,7 @@
 use borrow.Author.Rules.{rules}
 use Rattle.bit_vec.proofs.Store.{walk, walk_end}
-use Rattle.bit_vec.specs.Lists.{bits, scanned, place_step, last_place}
-use mathlib.Core.Path.{◌≡◌, sym, ◌∙◌}
-use lib.ListN.{length, drop}
-use Prim.Native.Nat.{◌-◌, ◌≤◌}
+use Rattle.bit_vec.specs.Lists.{place_step}
+use mathlib.Core.Path.{sym, ◌∙◌}
 use Rattle.bit_vec.proofs.ripple.last_place.Goals as goal
 
 pub loop-i-init : goal.loop-i-init

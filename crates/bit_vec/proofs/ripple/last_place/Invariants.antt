@@ -1,7 +1,5 @@
-use borrow.Author.Rules.{rules}
-use Rattle.bit_vec.proofs.Store.{walk, walk_end}
 use Rattle.bit_vec.specs.Lists.{bits, scanned, place_step, last_place}
-use mathlib.Core.Path.{◌≡◌, sym, ◌∙◌}
+use mathlib.Core.Path.{◌≡◌}
 use lib.ListN.{length, drop}
 use Prim.Native.Nat.{◌-◌, ◌≤◌}
 use Rattle.bit_vec.proofs.ripple.last_place.Given as goal

@@ -1,9 +1,6 @@
-use borrow.Author.Rules.{rules}
-use Rattle.bit_vec.proofs.Store.{Walked, walk_begin, walk_turn, walk_done}
+use Rattle.bit_vec.proofs.Store.{walk_begin, walk_turn, walk_done}
 use Rattle.bit_vec.specs.Lists.{digit_b, carry_b}
 use Rattle.bit.specs.declared.Bit.TheVariants.{Zero}
-use lib.ListN.{length}
-use Prim.Native.Nat.{◌-◌}
 use Rattle.bit_vec.proofs.ripple.ripple_in.Goals as goal
 
 pub loop-i-init : goal.loop-i-init

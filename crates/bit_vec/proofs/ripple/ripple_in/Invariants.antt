@@ -1,5 +1,4 @@
-use borrow.Author.Rules.{rules}
-use Rattle.bit_vec.proofs.Store.{Walked, walk_begin, walk_turn, walk_done}
+use Rattle.bit_vec.proofs.Store.{Walked}
 use Rattle.bit_vec.specs.Lists.{digit_b, carry_b}
 use Rattle.bit.specs.declared.Bit.TheVariants.{Zero}
 use lib.ListN.{length}

@@ -4,7 +4,6 @@ use Rattle.bit.specs.Bits.{bit_of}
 use Rattle.bit.specs.declared.Bit.TheVariants.{Zero}
 use Rattle.bit_vec.specs.Lists.{bits}
 use Rattle.bit_vec.specs.Moves.{last_of}
-use borrow.Author.Rules.{rules}
 use Rattle.bit_vec.proofs.ripple.sub_overflow.Goals as goal
 
 pub returns : goal.returns

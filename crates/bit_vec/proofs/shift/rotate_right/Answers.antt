@@ -2,7 +2,6 @@ use mathlib.Core.Path.{◌∙◌, ap}
 use Prim.Native.Nat.{ℕ, ◌-◌}
 use Rattle.bit_vec.specs.Moves.{rotateLeft}
 use mathlib.Core.Path.{sym}
-use borrow.Author.Rules.{rules}
 use Rattle.bit_vec.proofs.shift.rotate_right.Goals as goal
 
 pub returns : goal.returns

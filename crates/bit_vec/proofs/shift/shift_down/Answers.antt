@@ -1,5 +1,4 @@
 use Rattle.bit_vec.proofs.Shifted.{down_law}
-use borrow.Author.Rules.{rules}
 use Rattle.bit_vec.proofs.shift.shift_down.Goals as goal
 
 pub returns : goal.returns

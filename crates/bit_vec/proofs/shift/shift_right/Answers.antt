@@ -3,7 +3,6 @@ use Rattle.bit_vec.specs.Lists.{bits}
 use Rattle.bit_vec.specs.Moves.{down}
 use Rattle.bit.specs.Bits.{code_of}
 use Rattle.bit.specs.declared.Bit.TheVariants.{Unknown}
-use borrow.Author.Rules.{rules}
 use Rattle.bit_vec.proofs.shift.shift_right.Goals as goal
 
 pub returns-then-out-m : goal.returns-then-out-m

@@ -1,4 +1,3 @@
-use borrow.Author.Rules.{rules}
 use Rattle.bit_vec.proofs.shift.shift_right_signed.Goals as goal
 
 pub returns : goal.returns

@@ -1,5 +1,4 @@
 use Rattle.bit_vec.proofs.Shifted.{put_length, up_law}
-use borrow.Author.Rules.{rules}
 use Rattle.bit_vec.proofs.shift.shift_up.Goals as goal
 
 pub slice_bounds-repeat-end-2 : goal.slice_bounds-repeat-end-2

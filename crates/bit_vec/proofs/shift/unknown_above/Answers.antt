@@ -1,6 +1,5 @@
 use Rattle.bit_vec.proofs.Shifted.{low_length, low_law}
 use mathlib.Core.List.{[]}
-use borrow.Author.Rules.{rules}
 use Rattle.bit_vec.proofs.shift.unknown_above.Goals as goal
 
 pub slice_bounds-fill-end-2 : goal.slice_bounds-fill-end-2

@@ -1,5 +1,4 @@
 use Rattle.bit_vec.proofs.Shifted.{high_law}
-use borrow.Author.Rules.{rules}
 use Rattle.bit_vec.proofs.shift.unknown_below.Goals as goal
 
 pub returns : goal.returns

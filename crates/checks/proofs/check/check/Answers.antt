@@ -1,12 +1,11 @@
 use native.Mathlib.Omega.{arith}
 use Prim.Native.Nat.{ℕ, ◌≤◌, ◌<◌}
-use mathlib.Core.Path.{◌≡◌, sym, ap, ◌∙◌}
+use mathlib.Core.Path.{sym, ap, ◌∙◌}
 use borrow.Author.Tests.{lt-ltb, le-ltb}
 use Rattle.pcode.specs.declared.refusal.Refusal.TheVariants.{TooManyStatements}
 use Rattle.text.specs.Reading.{room_of}
 use Rattle.text.specs.declared.answer.Answer.TheVariants.{Refused}
 use Rattle.checks.specs.Checks.{check_of}
-use borrow.Author.Rules.{rules}
 use Rattle.checks.proofs.check.check.Goals as goal
 
 pub returns-then-most-n : goal.returns-then-most-n

@@ -1,9 +1,7 @@
-use native.Mathlib.Omega.{arith}
 use mathlib.Core.Path.{sym, ap, ◌∙◌}
 use mathlib.Core.Bool.{not}
 use lib.ListN.{take}
 use Rattle.checks.specs.Labels.{good_use}
-use borrow.Author.Rules.{rules}
 use Rattle.checks.proofs.label.good_label.Goals as goal
 
 pub returns-in-None : goal.returns-in-None

@@ -1,8 +1,6 @@
-use native.Mathlib.Omega.{arith}
 use mathlib.Core.Path.{sym, ap, ◌∙◌}
 use Rattle.checks.specs.Labels.{stands}
 use Rattle.checks.specs.declared.label.LabelUse.{LabelUse}
-use borrow.Author.Rules.{rules}
 use Rattle.checks.proofs.label.is_label.Goals as goal
 
 pub returns-in-Stands : goal.returns-in-Stands

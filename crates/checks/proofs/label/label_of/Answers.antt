@@ -1,7 +1,5 @@
-use native.Mathlib.Omega.{arith}
 use mathlib.Core.Path.{sym, ap}
 use Rattle.checks.specs.Labels.{label_of}
-use borrow.Author.Rules.{rules}
 use Rattle.checks.proofs.label.label_of.Goals as goal
 
 pub returns-in-PcodeLabel : goal.returns-in-PcodeLabel

@@ -1,14 +1,14 @@
 use borrow.Author.Rules.{rules}
 use native.Mathlib.Omega.{arith}
-use Prim.Native.Nat.{ℕ, ◌≤◌, ◌<◌, ◌+◌, ◌-◌}
+use Prim.Native.Nat.{◌+◌}
 use mathlib.Core.Path.{◌≡◌, refl, sym, ap, ◌∙◌}
-use mathlib.Core.List.{List, ◌∷◌}
+use mathlib.Core.List.{List}
 use borrow.Author.Tests.{not-true, not-false}
 use lib.ListN.{length, take, drop, get_or}
 use lib.Seq.{take-take}
 use Rattle.pcode.specs.Block.{blank_stmt}
 use Rattle.pcode.specs.declared.block.Stmt.{Stmt}
-use Rattle.checks.specs.Labels.{good_label, labels_from}
+use Rattle.checks.specs.Labels.{good_label}
 use Rattle.checks.proofs.Walks.{walk_end, walk_past, walk_here, labels_end, labels_more, labels_stop}
 use Rattle.checks.proofs.label.labels.Goals as goal
 

@@ -1,8 +1,6 @@
-use native.Mathlib.Omega.{arith}
 use mathlib.Core.Path.{sym, ◌∙◌}
 use borrow.Author.Tests.{not-true, not-false}
 use Rattle.checks.specs.Statements.{good_node}
-use borrow.Author.Rules.{rules}
 use Rattle.checks.proofs.stmt.good_node.Goals as goal
 
 pub returns-then-is_zero : goal.returns-then-is_zero

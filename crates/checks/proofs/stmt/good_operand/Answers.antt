@@ -1,7 +1,5 @@
-use native.Mathlib.Omega.{arith}
 use mathlib.Core.Path.{sym, ap, ◌∙◌}
 use Rattle.checks.specs.Statements.{good_operand}
-use borrow.Author.Rules.{rules}
 use Rattle.checks.proofs.stmt.good_operand.Goals as goal
 
 pub returns-in-Const : goal.returns-in-Const

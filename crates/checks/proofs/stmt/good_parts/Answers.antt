@@ -1,8 +1,6 @@
-use native.Mathlib.Omega.{arith}
 use mathlib.Core.Path.{sym, ap, ◌∙◌}
 use borrow.Author.Tests.{not-true, not-false}
 use Rattle.checks.specs.Statements.{good_parts, good_operand}
-use borrow.Author.Rules.{rules}
 use Rattle.checks.proofs.stmt.good_parts.Goals as goal
 
 pub returns-then-not-good_operand : goal.returns-then-not-good_operand

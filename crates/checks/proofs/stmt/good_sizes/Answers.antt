@@ -1,6 +1,4 @@
-use native.Mathlib.Omega.{arith}
 use Rattle.checks.specs.Statements.{good_sizes}
-use borrow.Author.Rules.{rules}
 use Rattle.checks.proofs.stmt.good_sizes.Goals as goal
 
 pub returns : goal.returns

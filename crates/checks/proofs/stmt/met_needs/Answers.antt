@@ -1,13 +1,8 @@
-use native.Mathlib.Omega.{arith}
-use Prim.Native.Nat.{ℕ}
-use mathlib.Core.Path.{◌≡◌, sym, ap, ◌∙◌}
-use mathlib.Core.Bool.{Bool}
+use mathlib.Core.Path.{sym, ap, ◌∙◌}
 use borrow.Author.Tests.{not-true, not-false}
 use Rattle.pcode.specs.Rules.{meets, output_need, first_need, second_need}
 use Rattle.pcode.specs.declared.op.Need.{Need}
-use Rattle.pcode.specs.declared.var.Operand.{Operand}
 use Rattle.checks.specs.Statements.{met_needs, there}
-use borrow.Author.Rules.{rules}
 use Rattle.checks.proofs.stmt.met_needs.Goals as goal
 
 pub returns-then-not-met : goal.returns-then-not-met

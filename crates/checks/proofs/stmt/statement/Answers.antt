@@ -1,8 +1,6 @@
-use native.Mathlib.Omega.{arith}
-use mathlib.Core.Path.{sym, ap, ◌∙◌}
+use mathlib.Core.Path.{sym, ◌∙◌}
 use borrow.Author.Tests.{not-true, not-false}
 use Rattle.checks.specs.Statements.{stmt_check}
-use borrow.Author.Rules.{rules}
 use Rattle.checks.proofs.stmt.statement.Goals as goal
 
 pub returns-then-not-good_parts : goal.returns-then-not-good_parts

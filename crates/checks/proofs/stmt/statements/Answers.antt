@@ -1,11 +1,9 @@
 use borrow.Author.Rules.{rules}
 use native.Mathlib.Omega.{arith}
-use Prim.Native.Nat.{ℕ, ◌≤◌, ◌<◌, ◌+◌, ◌-◌}
-use mathlib.Core.Path.{◌≡◌, refl, sym, ap, ◌∙◌}
-use mathlib.Core.List.{◌∷◌}
+use Prim.Native.Nat.{◌+◌}
+use mathlib.Core.Path.{◌≡◌, refl, sym, ◌∙◌}
 use lib.ListN.{length, take, drop, get_or}
 use Rattle.pcode.specs.Block.{blank_stmt}
-use Rattle.checks.specs.Statements.{stmt_check, checks_from}
 use Rattle.checks.proofs.Walks.{walk_end, walk_past, walk_here, checks_end, checks_more, checks_stop}
 use Rattle.checks.proofs.stmt.statements.Goals as goal
 

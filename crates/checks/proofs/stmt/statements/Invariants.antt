@@ -1,12 +1,7 @@
-use borrow.Author.Rules.{rules}
-use native.Mathlib.Omega.{arith}
-use Prim.Native.Nat.{ℕ, ◌≤◌, ◌<◌, ◌+◌, ◌-◌}
-use mathlib.Core.Path.{◌≡◌, refl, sym, ap, ◌∙◌}
-use mathlib.Core.List.{◌∷◌}
-use lib.ListN.{length, take, drop, get_or}
-use Rattle.pcode.specs.Block.{blank_stmt}
-use Rattle.checks.specs.Statements.{stmt_check, checks_from}
-use Rattle.checks.proofs.Walks.{walk_end, walk_past, walk_here, checks_end, checks_more, checks_stop}
+use Prim.Native.Nat.{◌≤◌, ◌-◌}
+use mathlib.Core.Path.{◌≡◌}
+use lib.ListN.{take, drop}
+use Rattle.checks.specs.Statements.{checks_from}
 use Rattle.checks.proofs.stmt.statements.Given as goal
 
 abbrev pub invariant-loop-i : goal.invariant-loop-i

@@ -1,11 +1,8 @@
-use native.Mathlib.Omega.{arith}
-use Prim.Native.Nat.{ℕ, ◌+◌, ◌*◌, ◌-◌, ◌/◌, ◌%◌, ◌^◌, ◌<◌, ◌≤◌}
-use mathlib.Core.Path.{◌≡◌, refl, sym, ap, ◌∙◌, subst}
+use mathlib.Core.Path.{sym, ap, ◌∙◌, subst}
 use Rattle.pcode.specs.declared.op.Op.{Op}
 use Rattle.meaning.specs.Meaning.{meaning, one_if}
 use Rattle.concrete.specs.Fits.{Applies}
 use Rattle.wide.specs.Value.{value_of}
-use borrow.Author.Rules.{rules}
 use Rattle.concrete.proofs.apply.apply.Goals as goal
 
 pub apply_one-requires : goal.apply_one-requires

@@ -1,14 +1,8 @@
-use native.Mathlib.Omega.{arith}
-use Prim.Native.Nat.{ℕ, ◌+◌, ◌*◌, ◌-◌, ◌/◌, ◌%◌, ◌^◌, ◌<◌, ◌≤◌}
-use mathlib.Core.Path.{◌≡◌, refl, sym, ap, ◌∙◌, subst}
-use mathlib.Core.Bool.{Bool, true, false, not}
-use lib.Dec.{eqb, ltb, leb, lit<}
-use borrow.Author.Tests.{not-true, not-false}
+use mathlib.Core.Path.{sym, ap, ◌∙◌}
 use Rattle.wide.specs.Value.{value_of}
 use mathlib.Core.Bool.{◌&&◌, ◌||◌}
 use Rattle.pcode.specs.declared.op.BoolOp.{BoolOp}
 use Rattle.meaning.specs.Meaning.{odd, means_bool}
-use borrow.Author.Rules.{rules}
 use Rattle.concrete.proofs.apply.apply_bool.Goals as goal
 
 pub returns-in-BoolAnd : goal.returns-in-BoolAnd

@@ -1,15 +1,11 @@
 use native.Mathlib.Nat.{zero-add}
-use native.Mathlib.Omega.{arith}
-use Prim.Native.Nat.{ℕ, ◌+◌, ◌*◌, ◌-◌, ◌/◌, ◌%◌, ◌^◌, ◌<◌, ◌≤◌}
-use mathlib.Core.Path.{◌≡◌, refl, sym, ap, ◌∙◌, subst}
-use mathlib.Core.Bool.{Bool, true, false, not}
-use lib.Dec.{eqb, ltb, leb, lit<}
-use borrow.Author.Tests.{not-true, not-false}
+use Prim.Native.Nat.{ℕ, ◌+◌, ◌-◌, ◌%◌, ◌^◌}
+use mathlib.Core.Path.{sym, ap, ◌∙◌, subst}
+use mathlib.Core.Bool.{not}
 use Rattle.wide.specs.Value.{value_of}
 use Rattle.pcode.specs.declared.op.OneOp.{OneOp}
 use Rattle.meaning.specs.Meaning.{one_if, means_one}
 use Rattle.concrete.specs.Fits.{Grows}
-use borrow.Author.Rules.{rules}
 use Rattle.concrete.proofs.apply.apply_one.Goals as goal
 
 pub sign_extend-requires : goal.sign_extend-requires

@@ -1,13 +1,7 @@
-use native.Mathlib.Omega.{arith}
-use Prim.Native.Nat.{ℕ, ◌+◌, ◌*◌, ◌-◌, ◌/◌, ◌%◌, ◌^◌, ◌<◌, ◌≤◌}
-use mathlib.Core.Path.{◌≡◌, refl, sym, ap, ◌∙◌, subst}
-use mathlib.Core.Bool.{Bool, true, false, not}
-use lib.Dec.{eqb, ltb, leb, lit<}
-use borrow.Author.Tests.{not-true, not-false}
+use mathlib.Core.Path.{sym, ap, ◌∙◌}
 use Rattle.wide.specs.Value.{value_of}
 use Rattle.pcode.specs.declared.op.ShiftOp.{ShiftOp}
 use Rattle.meaning.specs.Meaning.{means_shift}
-use borrow.Author.Rules.{rules}
 use Rattle.concrete.proofs.apply.apply_shift.Goals as goal
 
 pub returns-in-IntLeft : goal.returns-in-IntLeft

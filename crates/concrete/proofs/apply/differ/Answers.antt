@@ -1,9 +1,7 @@
-use borrow.Author.Rules.{rules}
-use native.Mathlib.Omega.{arith}
-use Prim.Native.Nat.{ℕ, ◌+◌, ◌*◌, ◌-◌, ◌/◌, ◌%◌, ◌^◌, ◌<◌, ◌≤◌}
-use mathlib.Core.Path.{◌≡◌, refl, sym, ap, ◌∙◌, subst}
-use mathlib.Core.Bool.{Bool, true, false, not}
-use lib.Dec.{eqb, ltb, leb, lit<}
+use Prim.Native.Nat.{ℕ, ◌%◌}
+use mathlib.Core.Path.{sym, ap, ◌∙◌}
+use mathlib.Core.Bool.{not}
+use lib.Dec.{eqb}
 use Rattle.wide.specs.Value.{value_of}
 use Rattle.concrete.proofs.Counts.{low_bit}
 use Rattle.concrete.proofs.apply.differ.Goals as goal

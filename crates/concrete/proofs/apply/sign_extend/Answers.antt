@@ -1,13 +1,10 @@
 use native.Mathlib.Omega.{arith}
-use Prim.Native.Nat.{ℕ, ◌+◌, ◌*◌, ◌-◌, ◌/◌, ◌%◌, ◌^◌, ◌<◌, ◌≤◌}
-use mathlib.Core.Path.{◌≡◌, refl, sym, ap, ◌∙◌, subst}
-use mathlib.Core.Bool.{Bool, true, false, not}
-use lib.Dec.{eqb, ltb, leb, lit<}
+use Prim.Native.Nat.{ℕ, ◌+◌, ◌-◌, ◌%◌, ◌^◌, ◌≤◌}
+use mathlib.Core.Path.{sym, ap, ◌∙◌, subst}
 use borrow.Author.Tests.{not-true, not-false}
 use Rattle.wide.specs.Value.{value_of}
-use lib.Pow.{pow_mono, pow_pos}
+use lib.Pow.{pow_mono}
 use Rattle.concrete.proofs.Widths.{extended}
-use borrow.Author.Rules.{rules}
 use Rattle.concrete.proofs.apply.sign_extend.Goals as goal
 
 pub returns-then-not-sign_at : goal.returns-then-not-sign_at

@@ -1,8 +1,6 @@
 use native.Mathlib.Omega.{arith}
-use Prim.Native.Nat.{ℕ, ◌+◌, ◌*◌, ◌-◌, ◌/◌, ◌%◌, ◌^◌, ◌<◌, ◌≤◌}
-use mathlib.Core.Path.{◌≡◌, refl, sym, ap, ◌∙◌, subst}
-use mathlib.Core.Bool.{Bool, true, false, not}
-use lib.Dec.{eqb, ltb, leb, lit<}
+use Prim.Native.Nat.{ℕ, ◌-◌, ◌^◌}
+use mathlib.Core.Path.{sym, ap, ◌∙◌}
 use borrow.Author.Tests.{not-true, not-false}
 use Rattle.wide.specs.Value.{value_of}
 use Rattle.meaning.specs.Meaning.{shift_right}

@@ -1,11 +1,5 @@
-use native.Mathlib.Omega.{arith}
-use Prim.Native.Nat.{ℕ, ◌+◌, ◌*◌, ◌-◌, ◌/◌, ◌%◌, ◌^◌, ◌<◌, ◌≤◌}
-use mathlib.Core.Path.{◌≡◌, refl, sym, ap, ◌∙◌, subst}
-use Rattle.pcode.specs.declared.op.Op.{Op}
-use Rattle.meaning.specs.Meaning.{meaning, one_if}
-use Rattle.concrete.specs.Fits.{Applies}
-use Rattle.wide.specs.Value.{value_of}
-use borrow.Author.Rules.{rules}
+use Prim.Native.Nat.{ℕ, ◌%◌, ◌^◌}
+use mathlib.Core.Path.{ap, ◌∙◌}
 use Rattle.concrete.proofs.apply.subpiece.Goals as goal
 
 pub returns : goal.returns

@@ -1,11 +1,8 @@
-use native.Mathlib.Omega.{arith}
-use Prim.Native.Nat.{ℕ, ◌+◌, ◌*◌, ◌-◌, ◌/◌, ◌%◌, ◌^◌, ◌<◌, ◌≤◌}
-use mathlib.Core.Path.{◌≡◌, refl, sym, ap, ◌∙◌, subst}
-use mathlib.Core.Bool.{Bool, true, false, not}
-use lib.Dec.{eqb, ltb, leb, lit<}
+use Prim.Native.Nat.{ℕ, ◌^◌}
+use mathlib.Core.Path.{ap, ◌∙◌}
+use lib.Dec.{ltb}
 use Rattle.wide.specs.Value.{value_of}
 use Rattle.concrete.proofs.Signs.{carries}
-use borrow.Author.Rules.{rules}
 use Rattle.concrete.proofs.compare.carry.Goals as goal
 
 pub returns : goal.returns

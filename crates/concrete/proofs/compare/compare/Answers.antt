@@ -1,15 +1,10 @@
-use native.Mathlib.Omega.{arith}
-use Prim.Native.Nat.{ℕ, ◌+◌, ◌*◌, ◌-◌, ◌/◌, ◌%◌, ◌^◌, ◌<◌, ◌≤◌}
-use mathlib.Core.Path.{◌≡◌, refl, sym, ap, ◌∙◌, subst}
-use mathlib.Core.Bool.{Bool, true, false, not}
-use lib.Dec.{eqb, ltb, leb, lit<}
-use borrow.Author.Tests.{not-true, not-false}
+use mathlib.Core.Path.{sym, ap, ◌∙◌}
+use mathlib.Core.Bool.{not}
 use Rattle.wide.specs.Value.{value_of}
 use Rattle.pcode.specs.declared.op.CompareOp.{CompareOp}
 use Rattle.meaning.specs.Meaning.{signed, means_compare}
 use Rattle.concrete.proofs.Widths.{not_less}
 use Rattle.concrete.proofs.Signs.{not_above}
-use borrow.Author.Rules.{rules}
 use Rattle.concrete.proofs.compare.compare.Goals as goal
 
 pub returns-in-IntEqual : goal.returns-in-IntEqual

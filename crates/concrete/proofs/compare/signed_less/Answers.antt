@@ -1,7 +1,5 @@
-use mathlib.Core.Path.{◌≡◌}
 use mathlib.Core.Bool.{true, false}
 use Rattle.concrete.proofs.Signs.{signed_less_lem}
-use borrow.Author.Rules.{rules}
 use Rattle.concrete.proofs.compare.signed_less.Goals as goal
 
 pub returns-then-sign_at-2 : goal.returns-then-sign_at-2

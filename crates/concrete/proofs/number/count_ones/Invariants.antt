@@ -1,10 +1,7 @@
-use borrow.Author.Rules.{rules}
-use native.Mathlib.Omega.{arith}
-use Prim.Native.Nat.{ℕ, ◌+◌, ◌*◌, ◌-◌, ◌/◌, ◌%◌, ◌^◌, ◌<◌, ◌≤◌}
-use mathlib.Core.Path.{◌≡◌, refl, sym, ap, ◌∙◌, subst}
-use Rattle.meaning.specs.Meaning.{count_ones, leading_zeros}
+use Prim.Native.Nat.{◌+◌, ◌-◌, ◌≤◌}
+use mathlib.Core.Path.{◌≡◌}
+use Rattle.meaning.specs.Meaning.{count_ones}
 use Rattle.wide.specs.Value.{value_of}
-use Rattle.concrete.proofs.Counts.{ones_more, none_left, low_bit}
 use Rattle.concrete.proofs.number.count_ones.Given as goal
 
 abbrev pub invariant-loop-i : goal.invariant-loop-i

@@ -1,11 +1,8 @@
 use native.Mathlib.Omega.{arith}
-use Prim.Native.Nat.{ℕ, ◌+◌, ◌*◌, ◌-◌, ◌/◌, ◌%◌, ◌^◌, ◌<◌, ◌≤◌}
-use mathlib.Core.Path.{◌≡◌, refl, sym, ap, ◌∙◌, subst}
-use mathlib.Core.Bool.{Bool, not}
-use lib.Dec.{lit<, lit≤}
+use Prim.Native.Nat.{ℕ, ◌*◌, ◌%◌, ◌^◌}
+use mathlib.Core.Path.{sym, ap, ◌∙◌}
 use Rattle.wide.specs.Value.{value_of}
-use lib.Dec.{leb}
-use borrow.Author.Tests.{leb-true, leb-false}
+use borrow.Author.Tests.{leb-false}
 use Rattle.concrete.proofs.Widths.{low_half}
 use borrow.Author.Rules.{rules}
 use Rattle.concrete.proofs.number.left.Goals as goal

@@ -1,8 +1,4 @@
-use native.Mathlib.Omega.{arith}
-use Prim.Native.Nat.{ℕ, ◌+◌, ◌*◌, ◌-◌, ◌/◌, ◌%◌, ◌^◌, ◌<◌, ◌≤◌}
-use mathlib.Core.Path.{◌≡◌, refl, sym, ap, ◌∙◌, subst}
-use mathlib.Core.Bool.{Bool, not}
-use lib.Dec.{lit<, lit≤}
+use Prim.Native.Nat.{◌+◌, ◌*◌, ◌^◌}
 use Rattle.wide.specs.Value.{value_of}
 use Rattle.concrete.proofs.Widths.{exact}
 use Rattle.wide.proofs.Powers.{below_128}

@@ -1,12 +1,9 @@
-use native.Mathlib.Omega.{arith}
-use Prim.Native.Nat.{ℕ, ◌+◌, ◌*◌, ◌-◌, ◌/◌, ◌%◌, ◌^◌, ◌<◌, ◌≤◌}
-use mathlib.Core.Path.{◌≡◌, refl, sym, ap, ◌∙◌, subst}
-use mathlib.Core.Bool.{Bool, not}
-use lib.Dec.{lit<, lit≤}
+use Prim.Native.Nat.{ℕ}
+use mathlib.Core.Path.{ap, ◌∙◌}
+use mathlib.Core.Bool.{not}
 use Rattle.wide.specs.Value.{value_of}
 use lib.Dec.{ltb}
 use Rattle.concrete.proofs.Widths.{not_less}
-use borrow.Author.Rules.{rules}
 use Rattle.concrete.proofs.number.past.Goals as goal
 
 pub returns : goal.returns

@@ -1,12 +1,9 @@
 use native.Mathlib.Omega.{arith}
-use Prim.Native.Nat.{ℕ, ◌+◌, ◌*◌, ◌-◌, ◌/◌, ◌%◌, ◌^◌, ◌<◌, ◌≤◌}
-use mathlib.Core.Path.{◌≡◌, refl, sym, ap, ◌∙◌, subst}
-use mathlib.Core.Bool.{Bool, not}
-use lib.Dec.{lit<, lit≤}
+use Prim.Native.Nat.{ℕ, ◌+◌, ◌-◌, ◌%◌, ◌^◌}
+use mathlib.Core.Path.{◌≡◌, ap, ◌∙◌}
 use Rattle.wide.specs.Value.{value_of}
-use Rattle.concrete.proofs.Widths.{cut_cut}
 use native.Mathlib.Nat.{mod-eq_of_lt}
-use lib.Pow.{pow-lt, suc_ones, pow_pos}
+use lib.Pow.{pow-lt, pow_pos}
 use borrow.Author.Rules.{rules}
 use Rattle.concrete.proofs.number.power.Goals as goal
 

@@ -1,8 +1,6 @@
-use native.Mathlib.Omega.{arith}
-use Prim.Native.Nat.{ℕ, ◌+◌, ◌*◌, ◌-◌, ◌/◌, ◌%◌, ◌^◌, ◌<◌, ◌≤◌}
-use mathlib.Core.Path.{◌≡◌, refl, sym, ap, ◌∙◌, subst}
-use mathlib.Core.Bool.{Bool, not}
-use lib.Dec.{lit<, lit≤}
+use Prim.Native.Nat.{ℕ, ◌*◌, ◌-◌, ◌^◌}
+use mathlib.Core.Path.{sym, ap, ◌∙◌}
+use mathlib.Core.Bool.{not}
 use Rattle.wide.specs.Value.{value_of}
 use lib.Dec.{ltb, leb}
 use Rattle.concrete.proofs.Widths.{not_less, doubled, power_suc}

@@ -1,6 +1,5 @@
 use Rattle.const_eval.specs.State.{state_of}
 use Rattle.const_eval.proofs.Uses.{first_not, first_now}
-use borrow.Author.Rules.{rules}
 use Rattle.const_eval.proofs.known.first_use.Goals as goal
 
 pub returns-then-used-row-ne0 : goal.returns-then-used-row-ne0

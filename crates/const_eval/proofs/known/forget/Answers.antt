@@ -2,7 +2,6 @@ use Prim.Native.Nat.{ℕ}
 use mathlib.Core.Path.{ap}
 use mathlib.Core.List.{List}
 use Rattle.const_eval.specs.State.{State, state_of}
-use borrow.Author.Rules.{rules}
 use Rattle.const_eval.proofs.known.forget.Goals as goal
 
 pub returns : goal.returns

@@ -1,11 +1,10 @@
-use borrow.Author.Rules.{rules}
 use native.Mathlib.Omega.{arith}
-use Prim.Native.Nat.{ℕ, ◌-◌}
+use Prim.Native.Nat.{ℕ}
 use mathlib.Core.Path.{ap}
 use mathlib.Core.List.{List}
-use lib.ListN.{length, drop, drop_of_length-le}
+use lib.ListN.{drop, drop_of_length-le}
 use Rattle.const_eval.specs.State.{keep_flags}
-use Rattle.bit_vec.proofs.Store.{Stored, begin, finish}
+use Rattle.bit_vec.proofs.Store.{begin, finish}
 use Rattle.const_eval.proofs.Codes.{keep_turn}
 use Rattle.const_eval.proofs.known.keep.Goals as goal
 

@@ -1,12 +1,7 @@
-use borrow.Author.Rules.{rules}
-use native.Mathlib.Omega.{arith}
-use Prim.Native.Nat.{ℕ, ◌-◌}
-use mathlib.Core.Path.{ap}
-use mathlib.Core.List.{List}
-use lib.ListN.{length, drop, drop_of_length-le}
+use Prim.Native.Nat.{◌-◌}
+use lib.ListN.{length, drop}
 use Rattle.const_eval.specs.State.{keep_flags}
-use Rattle.bit_vec.proofs.Store.{Stored, begin, finish}
-use Rattle.const_eval.proofs.Codes.{keep_turn}
+use Rattle.bit_vec.proofs.Store.{Stored}
 use Rattle.const_eval.proofs.known.keep.Given as goal
 
 abbrev pub invariant-loop-i : goal.invariant-loop-i

@@ -1,6 +1,5 @@
 use Rattle.const_eval.specs.State.{state_of}
 use Rattle.const_eval.proofs.Uses.{note_not, note_now}
-use borrow.Author.Rules.{rules}
 use Rattle.const_eval.proofs.known.note.Goals as goal
 
 pub returns-in-At : goal.returns-in-At

@@ -5,7 +5,6 @@ use mathlib.Core.List.{List}
 use lib.ListN.{length}
 use Rattle.const_eval.specs.Known.{splice}
 use Rattle.const_eval.proofs.Parts.{put_splice}
-use borrow.Author.Rules.{rules}
 use Rattle.const_eval.proofs.map.enter.Goals as goal
 
 pub returns : goal.returns

@@ -1,10 +1,10 @@
 use borrow.Author.Rules.{rules}
 use native.Mathlib.Omega.{arith}
-use Prim.Native.Nat.{ℕ, ◌≤◌, ◌-◌}
+use Prim.Native.Nat.{ℕ, ◌-◌}
 use mathlib.Core.Path.{◌≡◌, refl, sym, ◌∙◌, ap}
 use Rattle.const_eval.specs.declared.place.Place.{Place}
 use Rattle.const_eval.specs.declared.map.Found.TheVariants.{At}
-use Rattle.const_eval.specs.Map.{place_at, entries, find_e, Short}
+use Rattle.const_eval.specs.Map.{place_at, entries, find_e}
 use Rattle.const_eval.proofs.Entries.{find_hit, find_miss, short_head, short_tail}
 use Rattle.const_eval.proofs.map.find.Goals as goal
 

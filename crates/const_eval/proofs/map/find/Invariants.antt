@@ -1,11 +1,6 @@
-use borrow.Author.Rules.{rules}
-use native.Mathlib.Omega.{arith}
-use Prim.Native.Nat.{ℕ, ◌≤◌, ◌-◌}
-use mathlib.Core.Path.{◌≡◌, refl, sym, ◌∙◌, ap}
-use Rattle.const_eval.specs.declared.place.Place.{Place}
-use Rattle.const_eval.specs.declared.map.Found.TheVariants.{At}
-use Rattle.const_eval.specs.Map.{place_at, entries, find_e, Short}
-use Rattle.const_eval.proofs.Entries.{find_hit, find_miss, short_head, short_tail}
+use Prim.Native.Nat.{◌≤◌}
+use mathlib.Core.Path.{◌≡◌}
+use Rattle.const_eval.specs.Map.{entries, find_e, Short}
 use Rattle.const_eval.proofs.map.find.Given as goal
 
 abbrev pub invariant-loop-i : goal.invariant-loop-i

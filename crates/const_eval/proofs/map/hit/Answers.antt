@@ -7,7 +7,6 @@ use Rattle.const_eval.specs.Known.{same_codes}
 use Rattle.const_eval.specs.Map.{place_at, entry_at}
 use Rattle.const_eval.proofs.Codes.{same_lengths}
 use Rattle.const_eval.proofs.Entries.{entry_key, hit_key}
-use borrow.Author.Rules.{rules}
 use Rattle.const_eval.proofs.map.hit.Goals as goal
 
 pub returns-then-n-key : goal.returns-then-n-key

@@ -2,7 +2,6 @@ use mathlib.Core.Path.{sym, ◌∙◌}
 use lib.ListN.{length}
 use Rattle.const_eval.specs.Map.{entries}
 use Rattle.const_eval.proofs.Looks.{inside_short, look_none, look_yes, look_stale, look_within}
-use borrow.Author.Rules.{rules}
 use Rattle.const_eval.proofs.map.lookup.Goals as goal
 
 pub find-f-requires : goal.find-f-requires

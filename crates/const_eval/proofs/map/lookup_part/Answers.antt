@@ -3,7 +3,6 @@ use mathlib.Core.List.{List}
 use Rattle.const_eval.specs.Known.{start_of}
 use Rattle.const_eval.specs.Map.{entries, lookup_of}
 use Rattle.const_eval.proofs.Parts.{of_slice}
-use borrow.Author.Rules.{rules}
 use Rattle.const_eval.proofs.map.lookup_part.Goals as goal
 
 pub returns : goal.returns

@@ -1,6 +1,5 @@
 use mathlib.Core.Path.{refl}
 use Rattle.const_eval.specs.Map.{place_at}
-use borrow.Author.Rules.{rules}
 use Rattle.const_eval.proofs.map.place_at.Goals as goal
 
 pub returns : goal.returns

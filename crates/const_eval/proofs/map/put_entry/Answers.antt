@@ -1,5 +1,4 @@
 use Rattle.const_eval.proofs.Entries.{words, words_second, words_third}
-use borrow.Author.Rules.{rules}
 use Rattle.const_eval.proofs.map.put_entry.Goals as goal
 
 pub bounds-row-1 : goal.bounds-row-1

@@ -1,8 +1,5 @@
-use borrow.Author.Rules.{rules}
-use Prim.Native.Nat.{◌-◌}
 use mathlib.Core.Path.{refl, sym}
-use lib.ListN.{length, drop}
-use Rattle.bit_vec.proofs.Store.{Stored, begin, place_turn, place_done}
+use Rattle.bit_vec.proofs.Store.{begin, place_turn, place_done}
 use Rattle.const_eval.proofs.place.copy.Goals as goal
 
 pub loop-i-init : goal.loop-i-init

@@ -1,8 +1,6 @@
-use borrow.Author.Rules.{rules}
 use Prim.Native.Nat.{◌-◌}
-use mathlib.Core.Path.{refl, sym}
 use lib.ListN.{length, drop}
-use Rattle.bit_vec.proofs.Store.{Stored, begin, place_turn, place_done}
+use Rattle.bit_vec.proofs.Store.{Stored}
 use Rattle.const_eval.proofs.place.copy.Given as goal
 
 abbrev pub invariant-loop-i : goal.invariant-loop-i

@@ -1,12 +1,8 @@
-use borrow.Author.Rules.{rules}
-use native.Mathlib.Omega.{arith}
-use Prim.Native.Nat.{ℕ, ◌-◌, ◌+◌, ◌*◌}
-use mathlib.Core.Path.{◌≡◌, sym, ap, subst}
-use mathlib.Core.List.{List}
+use Prim.Native.Nat.{◌-◌, ◌+◌, ◌*◌}
+use mathlib.Core.Path.{◌≡◌}
 use lib.ListN.{length}
 use Rattle.const_eval.specs.Known.{fresh_from}
-use Rattle.bit_vec.proofs.Store.{Stored, begin, finish}
-use Rattle.const_eval.proofs.Codes.{fresh_start, fresh_turn}
+use Rattle.bit_vec.proofs.Store.{Stored}
 use Rattle.const_eval.proofs.place.fresh.Given as goal
 
 abbrev pub invariant-loop-i : goal.invariant-loop-i

@@ -3,7 +3,6 @@ use mathlib.Core.Path.{◌∙◌, ap}
 use mathlib.Core.List.{List}
 use Rattle.const_eval.specs.Known.{splice, fresh_from, fresh_row}
 use Rattle.const_eval.proofs.Parts.{put_splice, slice_length}
-use borrow.Author.Rules.{rules}
 use Rattle.const_eval.proofs.place.fresh_row.Goals as goal
 
 pub returns : goal.returns

@@ -4,7 +4,6 @@ use mathlib.Core.List.{List}
 use Rattle.const_eval.specs.Known.{start_of, part_of, same_codes}
 use Rattle.const_eval.proofs.Codes.{same_lengths}
 use Rattle.const_eval.proofs.Parts.{of_slice, part_length}
-use borrow.Author.Rules.{rules}
 use Rattle.const_eval.proofs.place.holds.Goals as goal
 
 pub returns-then-n-key : goal.returns-then-n-key

@@ -4,7 +4,6 @@ use mathlib.Core.Path.{◌∙◌, ap}
 use mathlib.Core.List.{List}
 use Rattle.const_eval.specs.Known.{start_of, splice}
 use Rattle.const_eval.proofs.Parts.{put_splice, within_end}
-use borrow.Author.Rules.{rules}
 use Rattle.const_eval.proofs.place.put.Goals as goal
 
 pub returns : goal.returns

@@ -1,8 +1,5 @@
 use borrow.Author.Rules.{rules}
-use Prim.Native.Nat.{◌≤◌, ◌-◌}
-use mathlib.Core.Path.{◌≡◌, refl, sym, ◌∙◌}
-use lib.ListN.{length, drop}
-use Rattle.const_eval.specs.Known.{same_codes}
+use mathlib.Core.Path.{refl, sym, ◌∙◌}
 use Rattle.const_eval.proofs.Codes.{same_turn, same_differ, same_end}
 use Rattle.const_eval.proofs.place.same.Goals as goal
 

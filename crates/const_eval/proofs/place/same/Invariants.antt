@@ -1,9 +1,7 @@
-use borrow.Author.Rules.{rules}
 use Prim.Native.Nat.{◌≤◌, ◌-◌}
-use mathlib.Core.Path.{◌≡◌, refl, sym, ◌∙◌}
+use mathlib.Core.Path.{◌≡◌}
 use lib.ListN.{length, drop}
 use Rattle.const_eval.specs.Known.{same_codes}
-use Rattle.const_eval.proofs.Codes.{same_turn, same_differ, same_end}
 use Rattle.const_eval.proofs.place.same.Given as goal
 
 abbrev pub invariant-loop-i : goal.invariant-loop-i

@@ -1,11 +1,9 @@
-use native.Mathlib.Omega.{arith}
-use mathlib.Core.Path.{◌≡◌, refl, sym, ◌∙◌, ap, subst}
+use mathlib.Core.Path.{sym, ◌∙◌, ap}
 use mathlib.Core.Bool.{Bool}
 use Rattle.pcode.specs.Var.{pick}
 use Rattle.widen.specs.declared.widen.Skip.{Skip}
 use Rattle.widen.specs.declared.widen.Skip.TheVariants as Skips
 use Rattle.const_step.specs.Labels.{arrives_of}
-use borrow.Author.Rules.{rules}
 use Rattle.const_step.proofs.label.arrives.Goals as goal
 
 pub returns-then-same : goal.returns-then-same

@@ -1,10 +1,7 @@
-use native.Mathlib.Omega.{arith}
-use mathlib.Core.Path.{◌≡◌, refl, sym, ◌∙◌, ap, subst}
+use mathlib.Core.Path.{sym, ◌∙◌, ap}
 use Rattle.pcode.specs.declared.block.Stmt.{Stmt}
 use Rattle.widen.specs.Widen.{one_m}
-use Rattle.widen.specs.declared.widen.Skip.{Skip}
 use Rattle.const_step.specs.Labels.{end_of}
-use borrow.Author.Rules.{rules}
 use Rattle.const_step.proofs.label.end.Goals as goal
 
 pub returns-in-None : goal.returns-in-None

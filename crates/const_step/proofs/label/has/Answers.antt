@@ -1,9 +1,5 @@
 use borrow.Author.Rules.{rules}
-use native.Mathlib.Omega.{arith}
-use mathlib.Core.Path.{◌≡◌, refl, sym, ◌∙◌, ap, subst}
-use Prim.Native.Nat.{ℕ, ◌+◌, ◌-◌, ◌≤◌}
-use lib.ListN.{length, drop}
-use Rattle.const_step.specs.Labels.{has_target}
+use mathlib.Core.Path.{refl, ◌∙◌}
 use Rattle.const_step.proofs.Targets.{has_stop, has_more, has_none}
 use Rattle.const_step.proofs.label.has.Goals as goal
 

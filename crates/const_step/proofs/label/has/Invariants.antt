@@ -1,10 +1,7 @@
-use borrow.Author.Rules.{rules}
-use native.Mathlib.Omega.{arith}
-use mathlib.Core.Path.{◌≡◌, refl, sym, ◌∙◌, ap, subst}
-use Prim.Native.Nat.{ℕ, ◌+◌, ◌-◌, ◌≤◌}
+use mathlib.Core.Path.{◌≡◌}
+use Prim.Native.Nat.{◌-◌, ◌≤◌}
 use lib.ListN.{length, drop}
 use Rattle.const_step.specs.Labels.{has_target}
-use Rattle.const_step.proofs.Targets.{has_stop, has_more, has_none}
 use Rattle.const_step.proofs.label.has.Given as goal
 
 abbrev pub invariant-loop-i : goal.invariant-loop-i

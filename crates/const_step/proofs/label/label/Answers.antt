@@ -1,11 +1,8 @@
-use native.Mathlib.Omega.{arith}
-use mathlib.Core.Path.{◌≡◌, refl, sym, ◌∙◌, ap, subst}
+use mathlib.Core.Path.{sym, ◌∙◌, ap}
 use mathlib.Core.Bool.{Bool}
-use Rattle.pcode.specs.Var.{pick}
 use Rattle.widen.specs.Widen.{nothing_m}
 use Rattle.widen.specs.declared.widen.Skip.{Skip}
-use Rattle.const_step.specs.Labels.{arrives_of, kept_label, label_of}
-use borrow.Author.Rules.{rules}
+use Rattle.const_step.specs.Labels.{kept_label, label_of}
 use Rattle.const_step.proofs.label.label.Goals as goal
 
 pub returns-then-keeps : goal.returns-then-keeps

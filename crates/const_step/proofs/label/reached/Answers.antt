@@ -1,7 +1,4 @@
-use native.Mathlib.Omega.{arith}
-use mathlib.Core.Path.{◌≡◌, refl, sym, ◌∙◌, ap, subst}
 use Rattle.const_step.proofs.Joins.{or_first, or_second}
-use borrow.Author.Rules.{rules}
 use Rattle.const_step.proofs.label.reached.Goals as goal
 
 pub returns-then-has : goal.returns-then-has

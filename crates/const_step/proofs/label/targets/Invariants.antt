@@ -1,13 +1,8 @@
-use borrow.Author.Rules.{rules}
-use native.Mathlib.Omega.{arith}
-use mathlib.Core.Path.{◌≡◌, refl, sym, ◌∙◌, ap, subst}
-use Prim.Native.Nat.{ℕ, ◌+◌, ◌-◌, ◌≤◌}
-use mathlib.Core.List.{List, ◌++◌}
-use lib.ListN.{length, drop, take, get_or}
-use Rattle.pcode.specs.Block.{blank_stmt}
-use Rattle.bit_vec.proofs.Store.{Stored, begin, place_turn}
+use Prim.Native.Nat.{◌-◌, ◌≤◌}
+use mathlib.Core.List.{◌++◌}
+use lib.ListN.{drop, take}
+use Rattle.bit_vec.proofs.Store.{Stored}
 use Rattle.const_step.specs.Labels.{targets_of}
-use Rattle.const_step.proofs.Targets.{target_at, targets_length, targets_rest, stored_stop}
 use Rattle.const_step.proofs.label.targets.Given as goal
 
 abbrev pub invariant-loop-i : goal.invariant-loop-i

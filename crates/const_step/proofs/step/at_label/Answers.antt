@@ -1,8 +1,5 @@
-use native.Mathlib.Omega.{arith}
-use mathlib.Core.Path.{◌≡◌, refl, sym, ◌∙◌, ap, subst}
 use Rattle.const_eval.specs.State.{state_of}
 use Rattle.const_step.proofs.Joins.{label_kept, label_gone}
-use borrow.Author.Rules.{rules}
 use Rattle.const_step.proofs.step.at_label.Goals as goal
 
 pub returns-then-kept : goal.returns-then-kept

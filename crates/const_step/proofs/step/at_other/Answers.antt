@@ -1,17 +1,11 @@
-use native.Mathlib.Omega.{arith}
-use mathlib.Core.Path.{◌≡◌, refl, sym, ◌∙◌, ap, subst}
-use mathlib.Core.List.{List}
-use Prim.Native.Nat.{ℕ}
-use Rattle.const_eval.specs.State.{State, state_of}
-use Rattle.widen.specs.Widen.{made_of}
-use Rattle.widen.specs.declared.simple.Simple.{Simple}
+use mathlib.Core.Path.{sym, ◌∙◌, ap}
+use Rattle.const_eval.specs.State.{state_of}
 use Rattle.widen.specs.declared.widen.Made.{Made}
 use Rattle.widen.specs.declared.widen.Skip.{Skip}
 use Rattle.simplify.specs.Simplify.{Change}
 use Rattle.const_step.specs.Steps.{at_other}
 use Rattle.const_step.proofs.Turns.{simplify_in}
 use Rattle.const_step.proofs.Joins.{other_of}
-use borrow.Author.Rules.{rules}
 use Rattle.const_step.proofs.step.at_other.Goals as goal
 
 pub widen-made-requires : goal.widen-made-requires

@@ -1,14 +1,10 @@
-use native.Mathlib.Omega.{arith}
-use mathlib.Core.Path.{◌≡◌, refl, sym, ◌∙◌, ap, subst}
-use mathlib.Core.List.{List}
-use Prim.Native.Nat.{ℕ}
+use mathlib.Core.Path.{sym, ◌∙◌, ap, subst}
 use Rattle.const_eval.specs.State.{State, state_of}
 use Rattle.widen.specs.declared.turn.Turn.{Turn}
 use Rattle.simplify.specs.Simplify.{Apt}
 use Rattle.const_step.specs.Steps.{at_other, step_by}
 use Rattle.const_step.proofs.Turns.{forgotten_apt}
 use Rattle.widen.specs.declared.turn.Turn.TheVariants.{Marker}
-use borrow.Author.Rules.{rules}
 use Rattle.const_step.proofs.step.step.Goals as goal
 
 pub at_other-requires : goal.at_other-requires

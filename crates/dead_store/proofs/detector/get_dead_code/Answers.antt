@@ -1,13 +1,11 @@
 use native.Mathlib.Omega.{arith}
-use Prim.Native.Nat.{ℕ, ◌≤◌, ◌<◌}
-use mathlib.Core.Path.{◌≡◌, refl, sym, ap, ◌∙◌, subst}
-use mathlib.Core.Bool.{Bool, true}
-use mathlib.Core.List.{List, ◌++◌}
+use Prim.Native.Nat.{ℕ}
+use mathlib.Core.Path.{◌≡◌, ap, ◌∙◌}
+use mathlib.Core.List.{◌++◌}
 use lib.ListN.{length, take, drop}
 use lib.Seq.{length-take-le}
-use Rattle.pcode.specs.Block.{has_id, blank_stmt}
-use Rattle.pcode.specs.declared.var.VarId.{VarId}
-use Rattle.vars.specs.Vars.{held_ids, vars_of}
+use Rattle.pcode.specs.Block.{blank_stmt}
+use Rattle.vars.specs.Vars.{held_ids}
 use Rattle.vars.proofs.Rows.{named_has}
 use Rattle.live_tables.specs.Rows.{Named}
 use Rattle.dead_store.specs.Stays.{judge, dead_of, persists}

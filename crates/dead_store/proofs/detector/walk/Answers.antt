@@ -1,19 +1,15 @@
 use borrow.Author.Rules.{rules}
 use native.Mathlib.Omega.{arith}
-use Prim.Native.Nat.{ℕ, ◌≤◌, ◌<◌, ◌+◌, ◌-◌, min}
-use mathlib.Core.Path.{◌≡◌, refl, sym, ap, ◌∙◌, subst}
-use mathlib.Core.Bool.{Bool, true, false}
+use Prim.Native.Nat.{ℕ, ◌-◌}
+use mathlib.Core.Path.{◌≡◌, sym, ap, ◌∙◌}
+use mathlib.Core.Bool.{Bool}
 use mathlib.Core.List.{List, ◌++◌}
-use lib.ListN.{length, get_or, take, drop}
+use lib.ListN.{length, take, drop}
 use lib.Seq.{length-take-le, get_or-take}
-use Rattle.pcode.specs.Block.{has_id, blank_stmt}
-use Rattle.pcode.specs.declared.var.VarId.{VarId}
-use Rattle.vars.specs.Vars.{row_of}
-use Rattle.live_tables.specs.Rows.{Named, RowsAre, rows_of}
+use Rattle.pcode.specs.Block.{blank_stmt}
 use Rattle.dead_store.specs.Stays.{judge, dead_of}
-use Rattle.live_tables.specs.Tables.{Long}
 use Rattle.dead_store.specs.Walks.{none_dead}
-use Rattle.dead_store.proofs.Walking.{Walked, walked_none, walked_more, walked_all, stepped_of_lem}
+use Rattle.dead_store.proofs.Walking.{walked_none, walked_more, walked_all, stepped_of_lem}
 use Rattle.dead_store.proofs.detector.walk.Goals as goal
 
 pub loop-i-init : goal.loop-i-init

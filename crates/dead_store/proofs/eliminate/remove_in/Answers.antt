@@ -1,13 +1,12 @@
 use native.Mathlib.Omega.{arith}
-use Prim.Native.Nat.{ℕ, ◌≤◌, ◌<◌}
-use mathlib.Core.Path.{◌≡◌, refl, sym, ap, ◌∙◌, subst}
-use mathlib.Core.Bool.{Bool, true}
-use mathlib.Core.List.{List, ◌++◌}
+use mathlib.Core.Path.{◌≡◌, ap, ◌∙◌}
+use mathlib.Core.Bool.{Bool}
+use mathlib.Core.List.{List}
 use lib.ListN.{length, take, drop}
 use lib.Seq.{length-take-le, take_at}
 use Rattle.pcode.specs.declared.block.Limits.{Limits}
 use Rattle.vars.specs.declared.Naming.{Naming}
-use Rattle.vars.specs.Vars.{held_ids, vars_of, named_of, cap_of}
+use Rattle.vars.specs.Vars.{held_ids, named_of, cap_of}
 use Rattle.vars.proofs.Joining.{named_held}
 use Rattle.dead_store.specs.Stays.{judge, dead_of, persists, without, block_of}
 use Rattle.dead_store.specs.Walks.{none_dead}

@@ -1,20 +1,18 @@
 use borrow.Author.Rules.{rules}
 use native.Mathlib.Omega.{arith}
-use Prim.Native.Nat.{ℕ, ◌≤◌, ◌<◌, ◌+◌, ◌-◌}
+use Prim.Native.Nat.{◌+◌}
 use native.Mathlib.Numerals.{add-one}
-use mathlib.Core.Path.{◌≡◌, refl, sym, ap, ◌∙◌, subst}
-use mathlib.Core.Bool.{Bool, true, false}
-use mathlib.Core.List.{List, ◌∷◌}
+use mathlib.Core.Path.{◌≡◌, sym, ap, ◌∙◌}
+use mathlib.Core.Bool.{true, false}
+use mathlib.Core.List.{◌∷◌}
 use lib.ListN.{length, get_or, take, drop}
 use lib.Seq.{length-take-le, get_or-take, drop-cons}
 use Rattle.pcode.specs.Block.{has_id, blank_stmt}
 use Rattle.pcode.specs.declared.var.VarId.{VarId}
-use Rattle.pcode.specs.declared.var.Operand.{Operand}
 use Rattle.pcode.specs.declared.block.Stmt.{Stmt}
 use Rattle.vars.specs.Vars.{row_of, ids_of}
-use Rattle.live_tables.specs.declared.rows.Edge.{Edge}
-use Rattle.live_tables.specs.Rows.{Named, RowsAre, rows_of, is_label, is_var, edge_of}
-use Rattle.dead_store.proofs.Scanning.{Scanned, scan_none, scan_all, scan_label, scan_more, no_flag, reads_flag, writes_flag}
+use Rattle.live_tables.specs.Rows.{rows_of, is_label, is_var, edge_of}
+use Rattle.dead_store.proofs.Scanning.{scan_none, scan_all, scan_label, scan_more, no_flag, reads_flag, writes_flag}
 use Rattle.dead_store.proofs.live_tmps.live_tmps.Goals as goal
 
 pub loop-i-init : goal.loop-i-init

@@ -1,10 +1,8 @@
 use Rattle.live_tables.specs.Rows.{is_var}
-use native.Mathlib.Omega.{arith}
-use mathlib.Core.Path.{◌≡◌, refl, sym, ap, ◌∙◌, subst}
+use mathlib.Core.Path.{ap, ◌∙◌}
 use mathlib.Core.Bool.{Bool, not, ◌&&◌, false}
 use lib.ListN.{get_or}
 use Rattle.live_tables.proofs.Rowwise.{reads_noted}
-use borrow.Author.Rules.{rules}
 use Rattle.dead_store.proofs.live_tmps.note_reads.Goals as goal
 
 pub returns : goal.returns

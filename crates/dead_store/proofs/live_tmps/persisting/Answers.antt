@@ -1,12 +1,11 @@
 use borrow.Author.Rules.{rules}
 use native.Mathlib.Omega.{arith}
-use Prim.Native.Nat.{ℕ, ◌≤◌, ◌<◌, ◌+◌, ◌-◌}
-use mathlib.Core.Path.{◌≡◌, refl, sym, ap, ◌∙◌}
+use mathlib.Core.Path.{◌≡◌, ◌∙◌}
 use mathlib.Core.Bool.{false, ◌||◌}
 use lib.ListN.{length, get_or}
 use Rattle.pcode.specs.Block.{lasting}
 use Rattle.live_tables.specs.Rows.{no_id}
-use Rattle.live_tables.proofs.Filling.{Upto, upto_none, upto_more}
+use Rattle.live_tables.proofs.Filling.{upto_none, upto_more}
 use Rattle.dead_store.proofs.live_tmps.persisting.Goals as goal
 
 pub loop-i-init : goal.loop-i-init

@@ -1,10 +1,9 @@
 use native.Mathlib.Omega.{arith}
-use Prim.Native.Nat.{ℕ, ◌≤◌, ◌<◌, ◌+◌, ◌-◌, min}
-use mathlib.Core.Path.{◌≡◌, refl, sym, ap, ◌∙◌, subst}
+use Prim.Native.Nat.{min}
+use mathlib.Core.Path.{◌≡◌}
 use lib.ListN.{length, take, length-take}
 use Rattle.vars.specs.Vars.{held_ids}
 use Rattle.dead_store.proofs.Scanning.{persists_at}
-use borrow.Author.Rules.{rules}
 use Rattle.dead_store.proofs.live_tmps.persists.Goals as goal
 
 pub returns : goal.returns

@@ -1,9 +1,7 @@
-use native.Mathlib.Omega.{arith}
 use mathlib.Core.Path.{sym, ap, ◌∙◌}
 use mathlib.Core.Bool.{Bool, ◌||◌}
 use Rattle.pcode.specs.Block.{lasting}
 use Rattle.live_tables.proofs.Rowwise.{or_true, or_false}
-use borrow.Author.Rules.{rules}
 use Rattle.dead_store.proofs.live_tmps.should_persist.Goals as goal
 
 pub returns-then-live : goal.returns-then-live

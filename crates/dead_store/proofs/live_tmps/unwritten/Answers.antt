@@ -2,7 +2,6 @@ use native.Mathlib.Omega.{arith}
 use borrow.Author.Tests.{not-true, not-false}
 use lib.ListN.{get_or-eq_default}
 use mathlib.Core.Bool.{false}
-use borrow.Author.Rules.{rules}
 use Rattle.dead_store.proofs.live_tmps.unwritten.Goals as goal
 
 pub returns-then-not-there : goal.returns-then-not-there

@@ -1,4 +1,4 @@
-use Rattle.std.proofs.Common.{ap, arith, rules, le-ltb, lt-ltb}
+use Rattle.std.proofs.Common.{ap, arith, le-ltb, lt-ltb}
 use Rattle.eval.specs.Eval.{done}
 use Rattle.eval.proofs.amount.eval_rotate.Goals as goal
 

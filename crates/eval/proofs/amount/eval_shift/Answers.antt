@@ -1,4 +1,3 @@
-use Rattle.std.proofs.Common.{rules}
 use Rattle.eval.proofs.amount.eval_shift.Goals as goal
 
 pub returns-in-IntLeft : goal.returns-in-IntLeft

@@ -1,4 +1,3 @@
-use Rattle.std.proofs.Common.{rules}
 use Rattle.eval.proofs.amount.shift_right_zero.Goals as goal
 
 pub returns : goal.returns

@@ -1,4 +1,3 @@
-use Rattle.std.proofs.Common.{rules}
 use Rattle.eval.proofs.amount.turn.Goals as goal
 
 pub returns-in-IntRotateLeft : goal.returns-in-IntRotateLeft

@@ -1,4 +1,3 @@
-use Rattle.std.proofs.Common.{rules}
 use Rattle.eval.proofs.compare.bool_of.Goals as goal
 
 pub returns-in-BoolAnd : goal.returns-in-BoolAnd

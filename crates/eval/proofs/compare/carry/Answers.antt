@@ -1,4 +1,4 @@
-use Rattle.std.proofs.Common.{ap, rules}
+use Rattle.std.proofs.Common.{ap}
 use Rattle.bit_vec.specs.declared.ripple.Place.{Place}
 use Rattle.eval.proofs.compare.carry.Goals as goal
 

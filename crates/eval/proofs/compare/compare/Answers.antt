@@ -1,4 +1,3 @@
-use Rattle.std.proofs.Common.{rules}
 use Rattle.eval.proofs.compare.compare.Goals as goal
 
 pub returns-in-IntEqual : goal.returns-in-IntEqual

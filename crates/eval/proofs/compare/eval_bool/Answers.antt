@@ -1,4 +1,3 @@
-use Rattle.std.proofs.Common.{rules}
 use Rattle.eval.proofs.compare.eval_bool.Goals as goal
 
 pub returns : goal.returns

@@ -1,4 +1,3 @@
-use Rattle.std.proofs.Common.{rules}
 use Rattle.eval.proofs.compare.signed_less.Goals as goal
 
 pub returns : goal.returns

@@ -1,8 +1,6 @@
-use Rattle.std.proofs.Common.{◌≡◌, ◌+◌, ◌-◌, ◌<◌, length, drop, arith, rules}
-use Rattle.bit_vec.proofs.Store.{Stored, begin, place_turn, place_done, here}
+use Rattle.std.proofs.Common.{◌≡◌, ◌+◌, ◌<◌, length, arith}
+use Rattle.bit_vec.proofs.Store.{begin, place_turn, place_done, here}
 use Rattle.eval.proofs.Laws.{length_names, name_at}
-use Rattle.eval.specs.Name.{name_from}
-use Rattle.bit_vec.specs.Lists.{bits, codes}
 use Rattle.eval.proofs.name.name.Goals as goal
 
 pub loop-i-init : goal.loop-i-init

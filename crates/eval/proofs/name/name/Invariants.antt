@@ -1,6 +1,5 @@
-use Rattle.std.proofs.Common.{◌≡◌, ◌+◌, ◌-◌, ◌<◌, length, drop, arith, rules}
-use Rattle.bit_vec.proofs.Store.{Stored, begin, place_turn, place_done, here}
-use Rattle.eval.proofs.Laws.{length_names, name_at}
+use Rattle.std.proofs.Common.{◌-◌, length, drop}
+use Rattle.bit_vec.proofs.Store.{Stored}
 use Rattle.eval.specs.Name.{name_from}
 use Rattle.bit_vec.specs.Lists.{bits, codes}
 use Rattle.eval.proofs.name.name.Given as goal

@@ -1,4 +1,3 @@
-use Rattle.std.proofs.Common.{rules}
 use Rattle.eval.proofs.name.name_bit.Goals as goal
 
 pub returns-in-Unknown : goal.returns-in-Unknown

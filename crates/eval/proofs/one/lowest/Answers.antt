@@ -1,4 +1,3 @@
-use Rattle.std.proofs.Common.{rules}
 use Rattle.eval.proofs.one.lowest.Goals as goal
 
 pub returns : goal.returns

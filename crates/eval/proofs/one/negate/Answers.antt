@@ -1,5 +1,5 @@
 use Rattle.eval.proofs.Laws.{bits_zero}
-use Rattle.std.proofs.Common.{length, rules}
+use Rattle.std.proofs.Common.{length}
 use Rattle.eval.proofs.one.negate.Goals as goal
 
 pub returns : goal.returns

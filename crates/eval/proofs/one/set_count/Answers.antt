@@ -1,4 +1,3 @@
-use Rattle.std.proofs.Common.{rules}
 use Rattle.eval.proofs.one.set_count.Goals as goal
 
 pub returns-in-Known : goal.returns-in-Known

@@ -1,5 +1,4 @@
 use Rattle.bit_vec.proofs.Shifted.{tail}
-use Rattle.std.proofs.Common.{rules}
 use Rattle.eval.proofs.one.subpiece.Goals as goal
 
 pub returns : goal.returns

@@ -1,4 +1,3 @@
-use Rattle.std.proofs.Common.{rules}
 use Rattle.eval.proofs.operand.operand_bits.Goals as goal
 
 pub returns-in-Const : goal.returns-in-Const

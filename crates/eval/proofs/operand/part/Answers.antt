@@ -1,4 +1,4 @@
-use Rattle.std.proofs.Common.{◌∙◌, arith, rules}
+use Rattle.std.proofs.Common.{◌∙◌, arith}
 use Rattle.eval.proofs.Laws.{part_within}
 use Rattle.eval.proofs.operand.part.Goals as goal
 

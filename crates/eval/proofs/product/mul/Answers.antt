@@ -1,5 +1,5 @@
 use Rattle.eval.proofs.Products.{both_known}
-use Rattle.std.proofs.Common.{◌∙◌, rules}
+use Rattle.std.proofs.Common.{◌∙◌}
 use Rattle.eval.proofs.product.mul.Goals as goal
 
 pub returns-in-Known-get_const : goal.returns-in-Known-get_const

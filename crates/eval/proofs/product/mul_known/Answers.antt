@@ -1,4 +1,4 @@
-use Rattle.std.proofs.Common.{sym, ◌∙◌, arith, rules}
+use Rattle.std.proofs.Common.{sym, ◌∙◌, arith}
 use Rattle.eval.proofs.Products.{mul_zero, mul_power, mul_more, trailing_le}
 use Rattle.eval.proofs.product.mul_known.Goals as goal
 

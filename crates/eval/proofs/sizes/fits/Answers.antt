@@ -1,4 +1,3 @@
-use Rattle.std.proofs.Common.{rules}
 use Rattle.eval.proofs.sizes.fits.Goals as goal
 
 pub returns-in-Any : goal.returns-in-Any

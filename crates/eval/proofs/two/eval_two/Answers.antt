@@ -1,4 +1,3 @@
-use Rattle.std.proofs.Common.{rules}
 use Rattle.eval.proofs.two.eval_two.Goals as goal
 
 pub returns-in-IntAdd : goal.returns-in-IntAdd

@@ -1,5 +1,5 @@
 use Rattle.eval.proofs.Laws.{fit_self}
-use Rattle.std.proofs.Common.{◌∙◌, rules}
+use Rattle.std.proofs.Common.{◌∙◌}
 use Rattle.bit.specs.Bits.{code_of}
 use Rattle.bit.specs.declared.Bit.TheVariants.{Zero}
 use Rattle.eval.proofs.two.logic.Goals as goal

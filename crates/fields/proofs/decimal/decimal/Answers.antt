@@ -1,10 +1,7 @@
 use native.Mathlib.Omega.{arith}
-use Prim.Native.Nat.{ℕ, ◌<◌, ◌≤◌}
-use mathlib.Core.Path.{◌≡◌, sym, ◌∙◌}
+use mathlib.Core.Path.{sym, ◌∙◌}
 use borrow.Author.Tests.{eq-eqb, ne_eqb}
-use lib.ListN.{length}
 use Rattle.fields.proofs.Decimals.{decimal_none, decimal_one, decimal_many}
-use borrow.Author.Rules.{rules}
 use Rattle.fields.proofs.decimal.decimal.Goals as goal
 
 pub returns-then-n-eq0 : goal.returns-then-n-eq0

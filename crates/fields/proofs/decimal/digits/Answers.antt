@@ -1,9 +1,6 @@
 use borrow.Author.Rules.{rules}
 use native.Mathlib.Omega.{arith}
-use Prim.Native.Nat.{ℕ, ◌≤◌, ◌+◌, ◌-◌}
-use mathlib.Core.Path.{◌≡◌, sym, ◌∙◌}
-use lib.ListN.{length, drop, get_or}
-use Rattle.fields.specs.Decimals.{digits_of, step_of}
+use mathlib.Core.Path.{sym, ◌∙◌}
 use Rattle.fields.proofs.Decimals.{digits_end, digits_bad, digits_more}
 use Rattle.fields.proofs.decimal.digits.Goals as goal
 

@@ -1,10 +1,7 @@
-use borrow.Author.Rules.{rules}
-use native.Mathlib.Omega.{arith}
-use Prim.Native.Nat.{ℕ, ◌≤◌, ◌+◌, ◌-◌}
-use mathlib.Core.Path.{◌≡◌, sym, ◌∙◌}
-use lib.ListN.{length, drop, get_or}
-use Rattle.fields.specs.Decimals.{digits_of, step_of}
-use Rattle.fields.proofs.Decimals.{digits_end, digits_bad, digits_more}
+use Prim.Native.Nat.{◌≤◌, ◌-◌}
+use mathlib.Core.Path.{◌≡◌}
+use lib.ListN.{length, drop}
+use Rattle.fields.specs.Decimals.{digits_of}
 use Rattle.fields.proofs.decimal.digits.Given as goal
 
 abbrev pub invariant-loop-i : goal.invariant-loop-i

@@ -1,9 +1,7 @@
 use native.Mathlib.Omega.{arith}
-use Prim.Native.Nat.{ℕ, ◌+◌, ◌*◌, ◌-◌, ◌<◌, ◌≤◌}
-use mathlib.Core.Path.{◌≡◌, ap}
+use Prim.Native.Nat.{◌+◌, ◌*◌, ◌-◌, ◌<◌, ◌≤◌}
 use borrow.Author.Tests.{lt-ltb, le-ltb, lt-leb, le-leb}
 use Rattle.fields.specs.Decimals.{step_of}
-use borrow.Author.Rules.{rules}
 use Rattle.fields.proofs.decimal.step.Goals as goal
 
 pub returns-then-b-lt48 : goal.returns-then-b-lt48

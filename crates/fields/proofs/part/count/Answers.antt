@@ -1,9 +1,4 @@
-use borrow.Author.Rules.{rules}
 use native.Mathlib.Omega.{arith}
-use Prim.Native.Nat.{ℕ, ◌≤◌, ◌+◌, ◌-◌}
-use mathlib.Core.Path.{◌≡◌}
-use lib.ListN.{length, drop}
-use Rattle.fields.specs.Parts.{count_of}
 use Rattle.fields.proofs.Parts.{count_here, count_more, count_end}
 use Rattle.fields.proofs.part.count.Goals.{then-s-i, else-s-i}
 use Rattle.fields.proofs.part.count.Goals as goal
@@ -14,8 +9,9 @@ loop-i-preserved c =
     let s = c.args.s.now in
     let i = c.loop-i.i in
     elim c.if-s-i.branch [
-      then-s-i w ↦ omega (arith, w.n-is, count_here b s i (omega arith) w.if-s-i.true)
-    | else-s-i w ↦ omega (arith, w.n-is, count_more b s i (omega arith) w.if-s-i.false) ]
+      | then-s-i w ↦ omega (arith, w.n-is, count_here b s i (omega arith) w.if-s-i.true)
+      | else-s-i w ↦ omega (arith, w.n-is, count_more b s i (omega arith) w.if-s-i.false)
+    ]
 
 pub returns : goal.returns
 returns c = omega (arith, count_end c.args.b c.args.s.now c.loop-i.i (omega arith))

@@ -1,11 +1,7 @@
-use borrow.Author.Rules.{rules}
-use native.Mathlib.Omega.{arith}
-use Prim.Native.Nat.{ℕ, ◌≤◌, ◌+◌, ◌-◌}
+use Prim.Native.Nat.{◌≤◌, ◌+◌, ◌-◌}
 use mathlib.Core.Path.{◌≡◌}
-use mathlib.Core.Logic.{⊎_elim}
 use lib.ListN.{length, drop}
 use Rattle.fields.specs.Parts.{count_of}
-use Rattle.fields.proofs.Parts.{count_here, count_more, count_end}
 use Rattle.fields.proofs.part.count.Given as goal
 
 abbrev pub invariant-loop-i : goal.invariant-loop-i

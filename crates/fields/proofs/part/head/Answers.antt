@@ -1,10 +1,6 @@
-use native.Mathlib.Omega.{arith}
-use mathlib.Core.Path.{◌≡◌, sym, ap, subst}
-use Prim.Native.Nat.{ℕ, ◌≤◌}
-use lib.ListN.{length}
+use mathlib.Core.Path.{sym}
 use lib.Seq.{length-take-le}
 use Rattle.fields.proofs.Parts.{placed}
-use borrow.Author.Rules.{rules}
 use Rattle.fields.proofs.part.head.Goals as goal
 
 pub slice_bounds-result-end : goal.slice_bounds-result-end

@@ -1,10 +1,9 @@
 use borrow.Author.Rules.{rules}
 use native.Mathlib.Omega.{arith}
-use Prim.Native.Nat.{ℕ, suc, ◌≤◌, ◌+◌, ◌-◌}
-use mathlib.Core.List.{List}
+use Prim.Native.Nat.{ℕ, ◌≤◌}
 use mathlib.Core.Path.{◌≡◌, sym, ap, ◌∙◌}
 use lib.ListN.{length, drop}
-use Rattle.fields.specs.Parts.{rest_of, tail_of}
+use Rattle.fields.specs.Parts.{tail_of}
 use Rattle.fields.proofs.Parts.{rest_zero, rest_more, upward, started, from_start}
 use Rattle.fields.proofs.part.part.Goals as goal
 

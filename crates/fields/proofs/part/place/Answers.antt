@@ -1,9 +1,4 @@
-use borrow.Author.Rules.{rules}
 use native.Mathlib.Omega.{arith}
-use Prim.Native.Nat.{ℕ, ◌≤◌, ◌+◌, ◌-◌}
-use mathlib.Core.Path.{◌≡◌}
-use lib.ListN.{length, drop}
-use Rattle.fields.specs.Parts.{place_of}
 use Rattle.fields.proofs.Parts.{place_here, place_more, place_end}
 use Rattle.fields.proofs.part.place.Goals as goal
 

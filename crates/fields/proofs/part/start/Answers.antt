@@ -1,10 +1,9 @@
 use native.Mathlib.Omega.{arith}
-use mathlib.Core.Path.{◌≡◌, sym, ap, subst, ◌∙◌}
+use mathlib.Core.Path.{ap, ◌∙◌}
 use Prim.Native.Nat.{ℕ, ◌≤◌, ◌<◌, ◌+◌}
 use lib.ListN.{length}
 use borrow.Author.Tests.{lt-ltb, le-ltb}
 use Rattle.fields.specs.Parts.{place_of}
-use borrow.Author.Rules.{rules}
 use Rattle.fields.proofs.part.start.Goals as goal
 
 pub returns-then-p-n : goal.returns-then-p-n

@@ -1,9 +1,8 @@
-use borrow.Author.Rules.{rules}
 use native.Mathlib.Omega.{arith}
-use Prim.Native.Nat.{ℕ, ◌≤◌, ◌<◌, ◌-◌, ◌+◌, max}
-use mathlib.Core.Path.{◌≡◌, refl, sym, ◌∙◌, ap, subst}
-use mathlib.Core.Bool.{Bool, true, false, not, ◌&&◌, ◌||◌}
-use Rattle.live_bytes.specs.Bytes.{has, between, inside, holds, end_of, with_byte}
+use Prim.Native.Nat.{ℕ, ◌+◌}
+use mathlib.Core.Path.{sym, ◌∙◌, ap, subst}
+use mathlib.Core.Bool.{Bool, ◌||◌}
+use Rattle.live_bytes.specs.Bytes.{has, between, holds}
 use Rattle.live_bytes.proofs.Runs.{add_more, run_none, run_end, end_small}
 use Rattle.live_bytes.proofs.LiveBytes.add.Goals as goal
 

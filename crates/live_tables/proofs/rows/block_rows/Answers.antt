@@ -1,6 +1,6 @@
 use borrow.Author.Rules.{rules}
 use native.Mathlib.Omega.{arith}
-use Prim.Native.Nat.{ℕ, ◌≤◌, ◌<◌, ◌+◌, ◌-◌, min}
+use Prim.Native.Nat.{min}
 use mathlib.Core.Path.{◌≡◌, sym, ap, ◌∙◌}
 use mathlib.Core.List.{List}
 use lib.ListN.{length, get_or, take, length-take}
@@ -9,7 +9,7 @@ use Rattle.pcode.specs.Block.{blank_stmt}
 use Rattle.pcode.specs.declared.var.VarId.{VarId}
 use Rattle.vars.specs.Vars.{as_ids}
 use Rattle.live_tables.specs.Rows.{no_row, rows_of}
-use Rattle.live_tables.proofs.Filling.{Upto, upto_none, upto_more}
+use Rattle.live_tables.proofs.Filling.{upto_none, upto_more}
 use Rattle.live_tables.proofs.rows.block_rows.Goals as goal
 
 pub loop-i-init : goal.loop-i-init

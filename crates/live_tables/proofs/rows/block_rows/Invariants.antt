@@ -1,15 +1,9 @@
-use borrow.Author.Rules.{rules}
-use native.Mathlib.Omega.{arith}
-use Prim.Native.Nat.{ℕ, ◌≤◌, ◌<◌, ◌+◌, ◌-◌, min}
-use mathlib.Core.Path.{◌≡◌, sym, ap, ◌∙◌}
-use mathlib.Core.List.{List}
-use lib.ListN.{length, get_or, take, length-take}
-use lib.Seq.{get_or-take}
+use Prim.Native.Nat.{◌≤◌, ◌-◌}
+use lib.ListN.{get_or, take}
 use Rattle.pcode.specs.Block.{blank_stmt}
-use Rattle.pcode.specs.declared.var.VarId.{VarId}
 use Rattle.vars.specs.Vars.{as_ids}
 use Rattle.live_tables.specs.Rows.{no_row, rows_of}
-use Rattle.live_tables.proofs.Filling.{Upto, upto_none, upto_more}
+use Rattle.live_tables.proofs.Filling.{Upto}
 use Rattle.live_tables.proofs.rows.block_rows.Given as goal
 
 abbrev pub invariant-loop-i : goal.invariant-loop-i

@@ -1,7 +1,5 @@
-use native.Mathlib.Omega.{arith}
 use mathlib.Core.Path.{sym, ap}
 use Rattle.live_tables.specs.Rows.{part_of}
-use borrow.Author.Rules.{rules}
 use Rattle.live_tables.proofs.rows.part.Goals as goal
 
 pub returns-in-None : goal.returns-in-None

@@ -1,10 +1,8 @@
-use native.Mathlib.Omega.{arith}
 use mathlib.Core.Path.{sym, ap, ◌∙◌}
 use lib.ListN.{take}
 use Rattle.pcode.specs.declared.var.Operand.{Operand}
 use Rattle.vars.specs.Vars.{as_ids}
 use Rattle.live_tables.specs.Rows.{row_in}
-use borrow.Author.Rules.{rules}
 use Rattle.live_tables.proofs.rows.row_in.Goals as goal
 
 pub returns-in-Var : goal.returns-in-Var

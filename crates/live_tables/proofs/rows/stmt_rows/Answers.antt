@@ -1,6 +1,4 @@
-use native.Mathlib.Omega.{arith}
 use Rattle.live_tables.specs.Rows.{rows_of}
-use borrow.Author.Rules.{rules}
 use Rattle.live_tables.proofs.rows.stmt_rows.Goals as goal
 
 pub returns : goal.returns

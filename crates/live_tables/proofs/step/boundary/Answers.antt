@@ -1,6 +1,4 @@
-use native.Mathlib.Omega.{arith}
 use Rattle.live_tables.proofs.Stepping.{bounded_of, at_inside, at_branch, at_label, at_marker}
-use borrow.Author.Rules.{rules}
 use Rattle.live_tables.proofs.step.boundary.Goals as goal
 
 pub returns-in-Inside : goal.returns-in-Inside

@@ -1,9 +1,7 @@
-use native.Mathlib.Omega.{arith}
 use mathlib.Core.Path.{refl}
 use mathlib.Core.Bool.{◌||◌}
 use Rattle.live_tables.specs.Rows.{part_of}
 use Rattle.live_tables.proofs.Stepping.{guard_not, guard_set}
-use borrow.Author.Rules.{rules}
 use Rattle.live_tables.proofs.step.mark_as_read.Goals as goal
 
 pub returns-then-live : goal.returns-then-live

@@ -1,8 +1,6 @@
-use native.Mathlib.Omega.{arith}
 use mathlib.Core.Path.{refl}
 use mathlib.Core.Bool.{not, ◌&&◌}
 use Rattle.live_tables.proofs.Stepping.{guard_not, guard_set}
-use borrow.Author.Rules.{rules}
 use Rattle.live_tables.proofs.step.meet.Goals as goal
 
 pub returns-then-live : goal.returns-then-live

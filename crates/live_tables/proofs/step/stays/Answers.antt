@@ -1,13 +1,10 @@
 use Rattle.pcode.specs.Var.{as_operand}
-use native.Mathlib.Omega.{arith}
-use Prim.Native.Nat.{ℕ}
-use mathlib.Core.Path.{◌≡◌, sym, ap, ◌∙◌}
+use mathlib.Core.Path.{sym, ap, ◌∙◌}
 use mathlib.Core.Bool.{Bool, ◌||◌, false}
 use lib.ListN.{get_or}
 use Rattle.pcode.specs.declared.var.VarNode.{VarNode}
 use Rattle.live_bytes.specs.Bytes.{live_in}
 use Rattle.live_tables.specs.Rows.{part_of}
-use borrow.Author.Rules.{rules}
 use Rattle.live_tables.proofs.step.stays.Goals as goal
 
 pub returns : goal.returns

@@ -1,8 +1,6 @@
-use native.Mathlib.Omega.{arith}
-use mathlib.Core.Path.{◌≡◌, sym, ap, ◌∙◌}
+use mathlib.Core.Path.{sym, ap, ◌∙◌}
 use Rattle.live_tables.specs.Rows.{part_of}
 use Rattle.live_tables.proofs.Stepping.{bounded_of, step_made}
-use borrow.Author.Rules.{rules}
 use Rattle.live_tables.proofs.step.step.Goals as goal
 
 pub returns : goal.returns

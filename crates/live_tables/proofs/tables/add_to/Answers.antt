@@ -1,8 +1,6 @@
-use native.Mathlib.Omega.{arith}
 use mathlib.Core.Path.{refl}
-use mathlib.Core.Bool.{not, ◌&&◌, ◌||◌}
+use mathlib.Core.Bool.{◌||◌}
 use Rattle.live_tables.proofs.Rowwise.{row_past, row_set}
-use borrow.Author.Rules.{rules}
 use Rattle.live_tables.proofs.tables.add_to.Goals as goal
 
 pub returns-then-row-ge112 : goal.returns-then-row-ge112

@@ -1,11 +1,7 @@
-use borrow.Author.Rules.{rules}
-use native.Mathlib.Omega.{arith}
-use Prim.Native.Nat.{ℕ, ◌≤◌, ◌<◌, ◌+◌, ◌-◌}
-use mathlib.Core.Path.{◌≡◌, refl, sym, ap, ap₂, ◌∙◌}
-use lib.ListN.{length, get_or}
+use Prim.Native.Nat.{◌≤◌, ◌-◌}
+use lib.ListN.{get_or}
 use Rattle.live_tables.specs.Tables.{joined_set}
-use Rattle.live_tables.proofs.Filling.{Upto, upto_none, upto_more}
-use Rattle.live_tables.proofs.Rowwise.{ended_joined, ended_clear}
+use Rattle.live_tables.proofs.Filling.{Upto}
 use Rattle.live_tables.proofs.tables.end_stretch.Given as goal
 
 abbrev pub invariant-loop-i : goal.invariant-loop-i

@@ -1,5 +1,3 @@
-use native.Mathlib.Omega.{arith}
-use borrow.Author.Rules.{rules}
 use Rattle.live_tables.proofs.tables.joined.Goals as goal
 
 pub returns : goal.returns

@@ -1,6 +1,4 @@
-use native.Mathlib.Omega.{arith}
 use Rattle.live_tables.proofs.Rowwise.{live_past}
-use borrow.Author.Rules.{rules}
 use Rattle.live_tables.proofs.tables.live_at.Goals as goal
 
 pub returns-then-row-ge112 : goal.returns-then-row-ge112

@@ -1,5 +1,3 @@
-use borrow.Author.Rules.{rules}
-use native.Mathlib.Omega.{arith}
 use mathlib.Core.Path.{refl}
 use Rattle.live_tables.specs.Tables.{no_sets}
 use Rattle.live_tables.proofs.tables.no_sets.Goals as goal

@@ -1,6 +1,4 @@
-use native.Mathlib.Omega.{arith}
 use Rattle.live_tables.proofs.Rowwise.{flag_past, flag_not, flag_set}
-use borrow.Author.Rules.{rules}
 use Rattle.live_tables.proofs.tables.note.Goals as goal
 
 pub returns-then-row-ge112 : goal.returns-then-row-ge112

@@ -1,14 +1,14 @@
-use Prim.Native.Nat.{ℕ, ◌+◌, ◌*◌, ◌-◌, ◌<◌, ◌≤◌, min}
+use Prim.Native.Nat.{min}
 use native.Mathlib.Omega.{arith}
 use borrow.Author.Rules.{rules}
 use mathlib.Core.Path.{◌≡◌, refl, sym, ap, ◌∙◌}
 use mathlib.Core.Bool.{true, false}
 use mathlib.Core.List.{List}
-use lib.ListN.{length, take, drop, get_or, length-take}
+use lib.ListN.{length, take, get_or, length-take}
 use lib.Seq.{get_or-take, take-take}
 use Rattle.pcode.specs.Block.{blank_stmt}
 use Rattle.pcode.specs.declared.block.Stmt.{Stmt}
-use Rattle.machine.specs.Class.{outside, first_outside}
+use Rattle.machine.specs.Class.{outside}
 use Rattle.machine.proofs.Outside.{end, found, passed}
 use Rattle.machine.proofs.class.first_outside.Goals as goal
 

@@ -1,15 +1,7 @@
-use Prim.Native.Nat.{ℕ, ◌+◌, ◌*◌, ◌-◌, ◌<◌, ◌≤◌, min}
-use native.Mathlib.Omega.{arith}
-use borrow.Author.Rules.{rules}
-use mathlib.Core.Path.{◌≡◌, refl, sym, ap, ◌∙◌}
-use mathlib.Core.Bool.{true, false}
-use mathlib.Core.List.{List}
-use lib.ListN.{length, take, drop, get_or, length-take}
-use lib.Seq.{get_or-take, take-take}
-use Rattle.pcode.specs.Block.{blank_stmt}
-use Rattle.pcode.specs.declared.block.Stmt.{Stmt}
-use Rattle.machine.specs.Class.{outside, first_outside}
-use Rattle.machine.proofs.Outside.{end, found, passed}
+use Prim.Native.Nat.{◌-◌, ◌≤◌}
+use mathlib.Core.Path.{◌≡◌}
+use lib.ListN.{take, drop}
+use Rattle.machine.specs.Class.{first_outside}
 use Rattle.machine.proofs.class.first_outside.Given as goal
 
 abbrev pub invariant-loop-i : goal.invariant-loop-i

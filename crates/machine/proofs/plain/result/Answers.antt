@@ -1,18 +1,12 @@
-use native.Mathlib.Omega.{arith}
-use Prim.Native.Nat.{ℕ, ◌+◌, ◌*◌, ◌-◌, ◌/◌, ◌%◌, ◌^◌, ◌<◌, ◌≤◌}
-use mathlib.Core.Path.{◌≡◌, refl, sym, ap, ◌∙◌, subst}
-use mathlib.Core.List.{List}
+use Prim.Native.Nat.{ℕ, ◌*◌}
+use mathlib.Core.Path.{sym, ap, ◌∙◌, subst}
 use Rattle.wide.specs.Value.{value_of}
-use Rattle.vars.specs.Vars.{held_ids, row_of}
-use Rattle.state.specs.Bytes.{read_of, write_of}
-use Rattle.machine.specs.Values.{value_in, written, HeldOperand, HeldOutput}
-use Rattle.pcode.specs.declared.var.Operand.{Operand}
-use Rattle.pcode.specs.declared.var.Output.{Output}
+use Rattle.vars.specs.Vars.{held_ids}
+use Rattle.machine.specs.Values.{value_in}
 use Rattle.pcode.specs.Var.{size_of, size_out}
 use Rattle.meaning.specs.Meaning.{meaning}
 use Rattle.concrete.specs.Fits.{Applies}
 use Rattle.machine.specs.Values.{result_in}
-use borrow.Author.Rules.{rules}
 use Rattle.machine.proofs.plain.result.Goals as goal
 
 pub apply-requires : goal.apply-requires

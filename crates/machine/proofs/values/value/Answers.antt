@@ -1,14 +1,8 @@
-use native.Mathlib.Omega.{arith}
-use Prim.Native.Nat.{ℕ, ◌+◌, ◌*◌, ◌-◌, ◌/◌, ◌%◌, ◌^◌, ◌<◌, ◌≤◌}
-use mathlib.Core.Path.{◌≡◌, refl, sym, ap, ◌∙◌, subst}
-use mathlib.Core.List.{List}
+use mathlib.Core.Path.{sym, ap, ◌∙◌, subst}
 use Rattle.wide.specs.Value.{value_of}
-use Rattle.vars.specs.Vars.{held_ids, row_of}
-use Rattle.state.specs.Bytes.{read_of, write_of}
-use Rattle.machine.specs.Values.{value_in, written, HeldOperand, HeldOutput}
+use Rattle.vars.specs.Vars.{held_ids}
+use Rattle.machine.specs.Values.{value_in, HeldOperand}
 use Rattle.pcode.specs.declared.var.Operand.{Operand}
-use Rattle.pcode.specs.declared.var.Output.{Output}
-use borrow.Author.Rules.{rules}
 use Rattle.machine.proofs.values.value.Goals as goal
 
 pub read_node-requires : goal.read_node-requires

@@ -1,15 +1,10 @@
 use native.Mathlib.Omega.{arith}
-use Prim.Native.Nat.{ℕ, ◌+◌, ◌*◌, ◌-◌, ◌/◌, ◌%◌, ◌^◌, ◌<◌, ◌≤◌}
-use mathlib.Core.Path.{◌≡◌, refl, sym, ap, ◌∙◌, subst}
-use mathlib.Core.List.{List}
+use Prim.Native.Nat.{ℕ}
+use mathlib.Core.Path.{ap, ◌∙◌}
 use Rattle.wide.specs.Value.{value_of}
-use Rattle.vars.specs.Vars.{held_ids, row_of}
-use Rattle.state.specs.Bytes.{read_of, write_of}
-use Rattle.machine.specs.Values.{value_in, written, HeldOperand, HeldOutput}
-use Rattle.pcode.specs.declared.var.Operand.{Operand}
-use Rattle.pcode.specs.declared.var.Output.{Output}
+use Rattle.vars.specs.Vars.{held_ids}
+use Rattle.state.specs.Bytes.{write_of}
 use Rattle.vars.proofs.Rows.{row_below}
-use borrow.Author.Rules.{rules}
 use Rattle.machine.proofs.values.write_node.Goals as goal
 
 pub write-requires : goal.write-requires

@@ -1,11 +1,8 @@
-use native.Mathlib.Omega.{arith}
-use mathlib.Core.Path.{◌≡◌, refl, sym, ◌∙◌, ap, subst}
-use Rattle.pcode.specs.declared.block.Block.{Block}
+use mathlib.Core.Path.{sym, ◌∙◌, ap}
 use Rattle.text.specs.declared.answer.Answer.{Answer}
-use Rattle.optimizer.specs.First.{treated_by, first_of}
+use Rattle.optimizer.specs.First.{treated_by}
 use Rattle.optimizer.specs.Both.{both_by}
 use Rattle.optimizer.specs.declared.second.Treated.{Treated}
-use borrow.Author.Rules.{rules}
 use Rattle.optimizer.proofs.both.both.Goals as goal
 
 pub returns-in-Ok : goal.returns-in-Ok

@@ -1,11 +1,8 @@
-use native.Mathlib.Omega.{arith}
-use mathlib.Core.Path.{◌≡◌, refl, sym, ◌∙◌, ap, subst}
-use Rattle.pcode.specs.Block.{first_limits}
+use mathlib.Core.Path.{sym, ◌∙◌, ap}
 use Rattle.pcode.specs.declared.block.Limits.{Limits}
 use Rattle.text.specs.declared.answer.Answer.{Answer}
 use Rattle.checks.specs.Checks.{check_of}
 use Rattle.optimizer.specs.First.{first_by}
-use borrow.Author.Rules.{rules}
 use Rattle.optimizer.proofs.first.const_prop.Goals as goal
 
 pub walked-requires : goal.walked-requires

@@ -1,8 +1,5 @@
-use native.Mathlib.Omega.{arith}
-use mathlib.Core.Path.{◌≡◌, refl, sym, ◌∙◌, ap, subst}
+use mathlib.Core.Path.{◌≡◌, ◌∙◌, ap}
 use lib.ListN.{length, take}
-use Prim.Native.Nat.{ℕ}
-use Rattle.pcode.specs.Block.{first_limits}
 use Rattle.pcode.specs.declared.block.Limits.{Limits}
 use Rattle.vars.specs.Vars.{named_of, cap_of}
 use Rattle.vars.specs.declared.Vars.{Vars}

@@ -1,8 +1,6 @@
-use native.Mathlib.Omega.{arith}
-use mathlib.Core.Path.{◌≡◌, refl, sym, ◌∙◌, ap, subst}
+use mathlib.Core.Path.{sym, ap}
 use Rattle.text.specs.declared.answer.Answer.{Answer}
 use Rattle.optimizer.specs.First.{treated_by}
-use borrow.Author.Rules.{rules}
 use Rattle.optimizer.proofs.first.treated.Goals as goal
 
 pub returns-in-Ok : goal.returns-in-Ok

@@ -1,8 +1,6 @@
-use native.Mathlib.Omega.{arith}
-use mathlib.Core.Path.{◌≡◌, refl, sym, ◌∙◌, ap, subst}
+use mathlib.Core.Path.{◌∙◌, ap}
 use Rattle.const_prop.specs.declared.Propagated.{Propagated}
 use Rattle.optimizer.specs.First.{treated_by}
-use borrow.Author.Rules.{rules}
 use Rattle.optimizer.proofs.first.walked.Goals as goal
 
 pub returns : goal.returns

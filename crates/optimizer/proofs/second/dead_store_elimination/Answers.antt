@@ -1,4 +1,4 @@
-use mathlib.Core.Path.{◌≡◌, refl, sym, ap, ◌∙◌}
+use mathlib.Core.Path.{sym, ap, ◌∙◌}
 use Rattle.pcode.specs.declared.block.Block.{Block}
 use Rattle.pcode.specs.declared.block.Limits.{Limits}
 use Rattle.text.specs.declared.answer.Answer.{Answer}
@@ -7,7 +7,6 @@ use Rattle.checks.specs.Checks.{check_of}
 use Rattle.optimizer.specs.Second.{second_by}
 use Rattle.optimizer.specs.declared.second.Treated.{Treated}
 use Rattle.optimizer.proofs.Accepted.{ready}
-use borrow.Author.Rules.{rules}
 use Rattle.optimizer.proofs.second.dead_store_elimination.Goals as goal
 
 abbrev treated : Answer → Block → Treated

@@ -1,10 +1,7 @@
-use native.Mathlib.Omega.{arith}
-use Prim.Native.Nat.{ℕ}
 use mathlib.Core.Path.{ap}
 use lib.ListN.{replicate}
 use Rattle.pcode.specs.Block.{blank_stmts}
 use Rattle.pcode.specs.declared.block.Stmt.{Stmt}
-use borrow.Author.Rules.{rules}
 use Rattle.pcode.proofs.block.blanks.Goals as goal
 
 pub returns : goal.returns

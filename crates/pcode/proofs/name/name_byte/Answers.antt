@@ -1,10 +1,8 @@
-use native.Mathlib.Omega.{arith}
-use Prim.Native.Nat.{ℕ, ◌<◌, ◌≤◌}
-use mathlib.Core.Path.{◌≡◌, sym, ap, subst, ◌∙◌}
+use Prim.Native.Nat.{ℕ}
+use mathlib.Core.Path.{sym, ap}
 use mathlib.Core.List.{List}
-use lib.ListN.{length, get_or}
-use Rattle.pcode.specs.Names.{name_of}
-use Rattle.pcode.proofs.Names.{table, byte_at, none_past, zero_past}
+use lib.ListN.{get_or}
+use Rattle.pcode.proofs.Names.{byte_at, none_past, zero_past}
 use borrow.Author.Rules.{rules}
 use Rattle.pcode.proofs.name.name_byte.Goals as goal
 

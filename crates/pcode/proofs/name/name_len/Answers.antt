@@ -1,11 +1,6 @@
-use native.Mathlib.Omega.{arith}
-use Prim.Native.Nat.{ℕ, ◌<◌, ◌≤◌}
-use mathlib.Core.Path.{◌≡◌, sym, ap, subst, ◌∙◌}
+use mathlib.Core.Path.{sym, ap}
 use lib.ListN.{length}
-use mir.Syntax.{w64}
-use mir.Val.{Fits}
-use Rattle.pcode.specs.Names.{name_of}
-use Rattle.pcode.proofs.Names.{table, length_at, none_past, length_fits}
+use Rattle.pcode.proofs.Names.{length_at, none_past}
 use borrow.Author.Rules.{rules}
 use Rattle.pcode.proofs.name.name_len.Goals as goal
 

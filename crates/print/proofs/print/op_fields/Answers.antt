@@ -1,12 +1,11 @@
 use native.Mathlib.Omega.{arith}
 use Prim.Native.Nat.{ℕ}
-use mathlib.Core.Path.{◌≡◌, ap}
-use mathlib.Core.List.{List, [], ◌∷◌, ◌++◌}
+use mathlib.Core.Path.{ap}
+use mathlib.Core.List.{[], ◌∷◌, ◌++◌}
 use Rattle.pcode.specs.Names.{name_of, number_of}
 use Rattle.print.specs.Texts.{number_text}
 use Rattle.print.specs.Printing.{op_text}
 use Rattle.print.proofs.Writes.{then, retold}
-use borrow.Author.Rules.{rules}
 use Rattle.print.proofs.print.op_fields.Goals as goal
 
 pub returns : goal.returns

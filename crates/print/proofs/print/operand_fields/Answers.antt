@@ -1,7 +1,6 @@
 use native.Mathlib.Omega.{arith}
 use Rattle.print.specs.Printing.{operands_text}
 use Rattle.print.proofs.Writes.{then}
-use borrow.Author.Rules.{rules}
 use Rattle.print.proofs.print.operand_fields.Goals as goal
 
 pub returns : goal.returns

@@ -1,10 +1,9 @@
 use native.Mathlib.Omega.{arith}
-use mathlib.Core.Path.{◌≡◌, ap}
-use mathlib.Core.List.{List, ◌++◌}
+use mathlib.Core.Path.{ap}
+use mathlib.Core.List.{◌++◌}
 use Rattle.pcode.specs.declared.var.Operand.{Operand}
 use Rattle.print.specs.Printing.{record_text, op_text, operands_text}
 use Rattle.print.proofs.Writes.{then, retold}
-use borrow.Author.Rules.{rules}
 use Rattle.print.proofs.print.record.Goals as goal
 
 pub returns : goal.returns

@@ -1,13 +1,7 @@
-use borrow.Author.Rules.{rules}
-use native.Mathlib.Omega.{arith}
-use Prim.Native.Nat.{ℕ, ◌≤◌, ◌<◌, ◌+◌, ◌*◌, ◌-◌}
-use mathlib.Core.List.{List, []}
-use mathlib.Core.Path.{◌≡◌, refl, sym, ap, subst, ◌∙◌}
+use Prim.Native.Nat.{◌≤◌, ◌*◌, ◌-◌}
 use lib.ListN.{length, take}
 use Rattle.print.specs.Texts.{Wrote}
 use Rattle.print.specs.Printing.{printed}
-use Rattle.print.proofs.Writes.{then, retold, none}
-use Rattle.print.proofs.Records.{printed_none, printed_more}
 use Rattle.print.proofs.print.records.Given as goal
 
 abbrev pub invariant-loop-i : goal.invariant-loop-i

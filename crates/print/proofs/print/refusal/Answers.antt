@@ -1,15 +1,14 @@
 use Rattle.pcode.specs.Refusals.{refusal_number}
 use native.Mathlib.Omega.{arith}
 use Prim.Native.Nat.{ℕ}
-use mathlib.Core.Path.{◌≡◌, refl, ap, ◌∙◌}
-use mathlib.Core.List.{List, [], ◌∷◌, ◌++◌}
-use borrow.Author.Tests.{lt-ltb, le-ltb}
+use mathlib.Core.Path.{refl, ap, ◌∙◌}
+use mathlib.Core.List.{[], ◌∷◌, ◌++◌}
+use borrow.Author.Tests.{lt-ltb}
 use Rattle.pcode.specs.Names.{bytes_of}
-use Rattle.print.specs.Texts.{Wrote, digits_text}
+use Rattle.print.specs.Texts.{digits_text}
 use Rattle.print.specs.Printing.{refusal_text}
 use Rattle.print.proofs.Writes.{then, retold}
 use Rattle.print.proofs.Records.{printed_at}
-use borrow.Author.Rules.{rules}
 use Rattle.print.proofs.print.refusal.Goals as goal
 
 pub returns-then-out-lt-REFUSAL : goal.returns-then-out-lt-REFUSAL

@@ -1,6 +1,4 @@
-use native.Mathlib.Omega.{arith}
 use Rattle.print.proofs.Writes.{one}
-use borrow.Author.Rules.{rules}
 use Rattle.print.proofs.put.byte.Goals as goal
 
 pub returns : goal.returns

@@ -1,8 +1,6 @@
 use native.Mathlib.Omega.{arith}
-use mathlib.Core.Path.{refl}
 use Rattle.print.specs.Texts.{const_text}
 use Rattle.print.proofs.Writes.{then}
-use borrow.Author.Rules.{rules}
 use Rattle.print.proofs.put.constant.Goals as goal
 
 pub returns : goal.returns

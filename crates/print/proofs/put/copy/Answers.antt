@@ -1,12 +1,10 @@
 use borrow.Author.Rules.{rules}
 use native.Mathlib.Omega.{arith}
-use Prim.Native.Nat.{ℕ, ◌≤◌, ◌<◌, ◌+◌, ◌-◌}
-use mathlib.Core.List.{List, []}
-use mathlib.Core.Path.{◌≡◌, refl, sym, ap, ◌∙◌}
-use lib.ListN.{length, take, length-set}
+use mathlib.Core.Path.{refl, sym, ap, ◌∙◌}
+use lib.ListN.{length-set}
 use lib.Seq.{take_all}
 use Rattle.print.specs.Texts.{written}
-use Rattle.print.proofs.Writes.{written_none, row_more, retold}
+use Rattle.print.proofs.Writes.{written_none, row_more}
 use Rattle.print.proofs.put.copy.Goals as goal
 
 pub loop-i-init : goal.loop-i-init

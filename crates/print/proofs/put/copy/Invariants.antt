@@ -1,12 +1,7 @@
-use borrow.Author.Rules.{rules}
-use native.Mathlib.Omega.{arith}
-use Prim.Native.Nat.{ℕ, ◌≤◌, ◌<◌, ◌+◌, ◌-◌}
-use mathlib.Core.List.{List, []}
-use mathlib.Core.Path.{◌≡◌, refl, sym, ap, ◌∙◌}
-use lib.ListN.{length, take, length-set}
-use lib.Seq.{take_all}
+use Prim.Native.Nat.{◌≤◌, ◌+◌, ◌-◌}
+use mathlib.Core.Path.{◌≡◌}
+use lib.ListN.{length, take}
 use Rattle.print.specs.Texts.{written}
-use Rattle.print.proofs.Writes.{written_none, row_more, retold}
 use Rattle.print.proofs.put.copy.Given as goal
 
 abbrev pub invariant-loop-i : goal.invariant-loop-i

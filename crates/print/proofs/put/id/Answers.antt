@@ -1,11 +1,10 @@
 use native.Mathlib.Omega.{arith}
 use Prim.Native.Nat.{ℕ}
-use mathlib.Core.Path.{◌≡◌, sym, ap, ◌∙◌}
+use mathlib.Core.Path.{sym, ap, ◌∙◌}
 use mathlib.Core.List.{[], ◌∷◌, ◌++◌}
 use Rattle.print.specs.Texts.{digits_text}
 use Rattle.print.proofs.Writes.{then, retold}
 use Rattle.print.proofs.Signs.{id_low, id_high}
-use borrow.Author.Rules.{rules}
 use Rattle.print.proofs.put.id.Goals as goal
 
 pub returns-then-less : goal.returns-then-less

@@ -1,14 +1,8 @@
-use borrow.Author.Rules.{rules}
-use native.Mathlib.Omega.{arith}
-use Prim.Native.Nat.{ℕ, ◌≤◌, ◌<◌, ◌+◌, ◌-◌}
-use mathlib.Core.List.{List, []}
-use mathlib.Core.Path.{◌≡◌, refl, sym, ap, ◌∙◌}
-use lib.ListN.{length, take, set, length-set}
-use lib.Seq.{take_all}
+use Prim.Native.Nat.{◌≤◌, ◌+◌, ◌-◌}
+use mathlib.Core.Path.{◌≡◌}
+use lib.ListN.{length, take}
 use Rattle.pcode.specs.Names.{name_of}
-use Rattle.pcode.proofs.Names.{length_fits}
 use Rattle.print.specs.Texts.{written}
-use Rattle.print.proofs.Writes.{written_none, row_more, retold}
 use Rattle.print.proofs.put.name.Given as goal
 
 abbrev pub invariant-loop-i : goal.invariant-loop-i

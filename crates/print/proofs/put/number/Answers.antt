@@ -1,8 +1,7 @@
 use native.Mathlib.Omega.{arith}
-use mathlib.Core.Path.{◌≡◌, sym, ap, ◌∙◌}
+use mathlib.Core.Path.{sym, ap, ◌∙◌}
 use Rattle.print.specs.Texts.{number_text}
 use Rattle.print.proofs.Writes.{retold}
-use borrow.Author.Rules.{rules}
 use Rattle.print.proofs.put.number.Goals as goal
 
 pub returns-in-None : goal.returns-in-None

@@ -1,9 +1,7 @@
-use borrow.Author.Rules.{rules}
-use native.Mathlib.Omega.{arith}
-use Prim.Native.Nat.{ℕ, ◌≤◌, ◌+◌, ◌-◌}
-use mathlib.Core.Path.{◌≡◌, sym, ◌∙◌}
+use Prim.Native.Nat.{◌≤◌, ◌+◌, ◌-◌}
+use mathlib.Core.Path.{◌≡◌}
 use Rattle.record.specs.Names.{code_named}
-use Rattle.record.proofs.Names.{code_from, code_start, code_end, code_here, code_more}
+use Rattle.record.proofs.Names.{code_from}
 use Rattle.record.proofs.name.code.Given as goal
 
 abbrev pub invariant-loop-k : goal.invariant-loop-k

@@ -1,9 +1,7 @@
 use borrow.Author.Rules.{rules}
 use native.Mathlib.Omega.{arith}
-use Prim.Native.Nat.{ℕ, ◌≤◌, ◌+◌, ◌-◌}
-use mathlib.Core.Path.{◌≡◌, sym, ◌∙◌}
-use lib.ListN.{length, drop}
-use Rattle.pcode.specs.Names.{eq_bytes, name_of}
+use mathlib.Core.Path.{sym, ◌∙◌}
+use Rattle.pcode.specs.Names.{name_of}
 use Rattle.record.proofs.Names.{other_length, same_end, same_more, same_not}
 use Rattle.record.proofs.name.named.Goals as goal
 

@@ -1,9 +1,6 @@
 use borrow.Author.Rules.{rules}
 use native.Mathlib.Omega.{arith}
-use Prim.Native.Nat.{ℕ, ◌≤◌, ◌+◌, ◌-◌}
-use mathlib.Core.Path.{◌≡◌, sym, ◌∙◌}
-use lib.ListN.{length, drop}
-use Rattle.pcode.specs.Names.{eq_bytes}
+use mathlib.Core.Path.{sym, ◌∙◌}
 use Rattle.record.proofs.Names.{other_length, same_end, same_more, same_not}
 use Rattle.record.proofs.name.same.Goals as goal
 

@@ -1,10 +1,7 @@
-use borrow.Author.Rules.{rules}
-use native.Mathlib.Omega.{arith}
-use Prim.Native.Nat.{ℕ, ◌≤◌, ◌+◌, ◌-◌}
-use mathlib.Core.Path.{◌≡◌, sym, ◌∙◌}
+use Prim.Native.Nat.{◌≤◌, ◌-◌}
+use mathlib.Core.Path.{◌≡◌}
 use lib.ListN.{length, drop}
 use Rattle.pcode.specs.Names.{eq_bytes}
-use Rattle.record.proofs.Names.{other_length, same_end, same_more, same_not}
 use Rattle.record.proofs.name.same.Given as goal
 
 abbrev pub invariant-loop-i : goal.invariant-loop-i

@@ -1,12 +1,11 @@
 use native.Mathlib.Omega.{arith}
-use Prim.Native.Nat.{ℕ, ◌-◌, ◌^◌}
-use mathlib.Core.Path.{◌≡◌, sym, ap, ◌∙◌}
+use Prim.Native.Nat.{◌-◌, ◌^◌}
+use mathlib.Core.Path.{sym, ◌∙◌}
 use borrow.Author.Tests.{eq-eqb, ne_eqb}
 use Rattle.fields.specs.Decimals.{decimal_of}
 use Rattle.fields.proofs.Decimals.{bounded}
 use Rattle.record.specs.Operands.{const_of}
 use Rattle.record.proofs.Known.{known}
-use borrow.Author.Rules.{rules}
 use Rattle.record.proofs.operand.constant.Goals as goal
 
 pub returns-then-count-ne1 : goal.returns-then-count-ne1

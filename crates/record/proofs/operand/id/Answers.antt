@@ -1,12 +1,11 @@
 use native.Mathlib.Omega.{arith}
-use mathlib.Core.Path.{◌≡◌, sym, ap, ◌∙◌}
+use mathlib.Core.Path.{sym, ◌∙◌}
 use borrow.Author.Tests.{eq-eqb, ne_eqb}
 use Rattle.fields.specs.Decimals.{decimal_of}
 use Rattle.fields.proofs.Decimals.{bounded}
 use Rattle.fields.proofs.Parts.{upward}
 use Rattle.record.specs.Operands.{id_of}
 use Rattle.record.proofs.Known.{known}
-use borrow.Author.Rules.{rules}
 use Rattle.record.proofs.operand.id.Goals as goal
 
 pub returns-then-s-eq0 : goal.returns-then-s-eq0

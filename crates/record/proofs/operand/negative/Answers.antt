@@ -1,5 +1,5 @@
 use native.Mathlib.Omega.{arith}
-use Prim.Native.Nat.{ℕ, ◌-◌, ◌<◌, ◌≤◌}
+use Prim.Native.Nat.{ℕ, ◌-◌, ◌≤◌}
 use mathlib.Core.Path.{◌≡◌, ap, ◌∙◌, sym, subst}
 use lib.IntN.{ℤ, negsuc, ◌-ℤ◌}
 use mir.Syntax.{w16}
@@ -7,7 +7,6 @@ use mir.Val.{SFits, to_z, of_z}
 use mir.Facts.{to_z_pos, to_z-of_z}
 use Rattle.pcode.specs.declared.var.VarId.{VarId}
 use Rattle.record.proofs.Known.{minus_one}
-use borrow.Author.Rules.{rules}
 use Rattle.record.proofs.operand.negative.Goals as goal
 
 abbrev made : ℤ → VarId

@@ -1,10 +1,7 @@
-use native.Mathlib.Omega.{arith}
-use mathlib.Core.Path.{◌≡◌, sym, ap, ◌∙◌}
 use borrow.Author.Tests.{eq-eqb, ne_eqb}
 use Rattle.fields.proofs.Parts.{upward}
-use Rattle.record.specs.Operands.{operand_of, var_of, const_of}
+use Rattle.record.specs.Operands.{operand_of, var_of}
 use Rattle.record.proofs.Known.{known}
-use borrow.Author.Rules.{rules}
 use Rattle.record.proofs.operand.operand.Goals as goal
 
 pub returns-then-s-eq0 : goal.returns-then-s-eq0

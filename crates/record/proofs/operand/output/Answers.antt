@@ -1,7 +1,4 @@
-use native.Mathlib.Omega.{arith}
-use mathlib.Core.Path.{◌≡◌, sym, ap, ◌∙◌}
-use Rattle.record.specs.Operands.{as_output, operand_of}
-use borrow.Author.Rules.{rules}
+use mathlib.Core.Path.{sym, ◌∙◌}
 use Rattle.record.proofs.operand.output.Goals as goal
 
 pub returns-in_default : goal.returns-in_default

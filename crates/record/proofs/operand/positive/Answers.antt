@@ -1,10 +1,8 @@
-use native.Mathlib.Omega.{arith}
 use mathlib.Core.Path.{ap}
 use lib.IntN.{ℤ}
 use mir.Syntax.{w16}
 use mir.Facts.{to_z_pos}
 use Rattle.pcode.specs.declared.var.VarId.{VarId}
-use borrow.Author.Rules.{rules}
 use Rattle.record.proofs.operand.positive.Goals as goal
 
 abbrev made : ℤ → VarId

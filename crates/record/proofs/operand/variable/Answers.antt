@@ -1,11 +1,10 @@
 use native.Mathlib.Omega.{arith}
-use mathlib.Core.Path.{◌≡◌, sym, ap, ◌∙◌}
+use mathlib.Core.Path.{sym, ◌∙◌}
 use borrow.Author.Tests.{eq-eqb, ne_eqb}
 use Rattle.fields.specs.Decimals.{decimal_of}
 use Rattle.fields.proofs.Decimals.{bounded}
 use Rattle.record.specs.Operands.{id_of, var_of}
 use Rattle.record.proofs.Known.{known}
-use borrow.Author.Rules.{rules}
 use Rattle.record.proofs.operand.variable.Goals as goal
 
 pub returns-then-count-ne2 : goal.returns-then-count-ne2

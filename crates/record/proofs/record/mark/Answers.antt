@@ -1,5 +1,4 @@
-use native.Mathlib.Omega.{arith}
-use mathlib.Core.Path.{◌≡◌, sym, ap, ◌∙◌}
+use mathlib.Core.Path.{sym, ◌∙◌}
 use mathlib.Core.List.{List}
 use Prim.Native.Nat.{ℕ}
 use borrow.Author.Tests.{not-true, not-false}
@@ -7,7 +6,6 @@ use Rattle.pcode.specs.Names.{bytes_of, eq_bytes}
 use Rattle.record.specs.Operands.{id_of}
 use Rattle.record.specs.Records.{mark_of}
 use Rattle.record.proofs.Known.{known}
-use borrow.Author.Rules.{rules}
 use Rattle.record.proofs.record.mark.Goals as goal
 
 pub returns-then-not-same : goal.returns-then-not-same

@@ -1,8 +1,7 @@
 use native.Mathlib.Omega.{arith}
-use mathlib.Core.Path.{◌≡◌, sym, ap, ◌∙◌}
+use mathlib.Core.Path.{sym, ◌∙◌}
 use Rattle.fields.proofs.Decimals.{bounded}
 use Rattle.record.specs.Records.{number_in}
-use borrow.Author.Rules.{rules}
 use Rattle.record.proofs.record.number.Goals as goal
 
 pub returns-in_default : goal.returns-in_default

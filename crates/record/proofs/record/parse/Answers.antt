@@ -1,8 +1,6 @@
-use native.Mathlib.Omega.{arith}
-use mathlib.Core.Path.{◌≡◌, sym, ap, ◌∙◌}
+use mathlib.Core.Path.{sym, ◌∙◌}
 use borrow.Author.Tests.{eq-eqb, ne_eqb, lt-ltb, le-ltb}
 use Rattle.record.specs.Records.{record_of}
-use borrow.Author.Rules.{rules}
 use Rattle.record.proofs.record.parse.Goals as goal
 
 pub returns-then-line-gt-LINE : goal.returns-then-line-gt-LINE

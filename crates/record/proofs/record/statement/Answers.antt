@@ -1,12 +1,9 @@
-use native.Mathlib.Omega.{arith}
-use Prim.Native.Nat.{ℕ, ◌<◌, ◌≤◌}
-use mathlib.Core.Path.{◌≡◌, refl, sym, ap, ◌∙◌}
+use mathlib.Core.Path.{refl}
 use borrow.Author.Tests.{lt-ltb, le-ltb}
 use Rattle.record.specs.Names.{code_named}
 use Rattle.record.specs.Operands.{operand_of, output_of}
 use Rattle.record.specs.Records.{statement_of, number_in}
 use Rattle.record.proofs.Known.{known}
-use borrow.Author.Rules.{rules}
 use Rattle.record.proofs.record.statement.Goals as goal
 
 pub returns-then-k-ge72 : goal.returns-then-k-ge72

@@ -3,7 +3,6 @@ use mathlib.Core.Bool.{Bool}
 use Rattle.pcode.specs.Var.{pick}
 use Rattle.step.specs.declared.Flow.{Flow}
 use Rattle.step.specs.declared.Flow.TheVariants.{Next, Jump}
-use borrow.Author.Rules.{rules}
 use Rattle.run.proofs.forward.arrive.Goals as goal
 
 pub returns-then-is_label : goal.returns-then-is_label

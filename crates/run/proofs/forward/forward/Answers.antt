@@ -1,15 +1,13 @@
-use borrow.Author.Rules.{rules}
 use native.Mathlib.Omega.{arith}
-use Prim.Native.Nat.{◌-◌, ◌<◌, ◌≤◌}
+use Prim.Native.Nat.{◌<◌, ◌≤◌}
 use mathlib.Core.Path.{◌≡◌, sym}
 use lib.ListN.{length, take, get_or}
 use lib.Seq.{get_or-take, length-take-le}
 use Rattle.pcode.specs.Block.{blank_stmt}
 use Rattle.wide.specs.Value.{value_of}
 use Rattle.vars.specs.Vars.{held_ids}
-use Rattle.run.specs.Run.{Runnable}
 use Rattle.run.proofs.Bytes.{shaped}
-use Rattle.run.proofs.Going.{given_of, Going, ready_at, going_none, going_past, going_on, going_rows, going_words}
+use Rattle.run.proofs.Going.{given_of, ready_at, going_none, going_past, going_on, going_rows, going_words}
 use Rattle.run.proofs.forward.forward.Goals as goal
 
 pub loop-i-init : goal.loop-i-init

@@ -4,7 +4,6 @@ use Rattle.pcode.specs.declared.block.Limits.{Limits}
 use Rattle.text.specs.declared.answer.Answer.{Answer}
 use Rattle.checks.specs.Checks.{check_of}
 use Rattle.run.specs.Promise.{checked_outcome}
-use borrow.Author.Rules.{rules}
 use Rattle.run.proofs.outcome.outcome_of.Goals as goal
 
 pub returns-in-Ok : goal.returns-in-Ok

@@ -12,7 +12,6 @@ use Rattle.step.specs.declared.Flow.TheVariants.{Next}
 use Rattle.trace.specs.Words.{trace_words}
 use Rattle.run.specs.Run.{run_from, run_of, start_of, Runnable}
 use Rattle.run.proofs.Ended.{named_small}
-use borrow.Author.Rules.{rules}
 use Rattle.run.proofs.run.named_run.Goals as goal
 
 pub forward-requires : goal.forward-requires

@@ -1,5 +1,4 @@
 use Rattle.run.proofs.Ended.{of_class}
-use borrow.Author.Rules.{rules}
 use Rattle.run.proofs.run.run.Goals as goal
 
 pub returns : goal.returns

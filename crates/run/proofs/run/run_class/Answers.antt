@@ -8,7 +8,6 @@ use Rattle.run.specs.Promise.{rows_by, trace_by, kind_of, number_of, place_of}
 use Rattle.run.specs.declared.outcome.Outcome.{Outcome}
 use Rattle.run.proofs.Ready.{runnable}
 use Rattle.run.proofs.Ended.{done}
-use borrow.Author.Rules.{rules}
 use Rattle.run.proofs.run.run_class.Goals as goal
 
 pub named_run-requires : goal.named_run-requires

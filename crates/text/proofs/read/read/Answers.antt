@@ -1,14 +1,14 @@
 use Rattle.text.specs.declared.answer.Read.{Read}
 use borrow.Author.Rules.{rules}
 use native.Mathlib.Omega.{arith}
-use Prim.Native.Nat.{ℕ, suc, ◌≤◌, ◌<◌, ◌+◌, ◌-◌}
+use Prim.Native.Nat.{ℕ, ◌≤◌, ◌+◌}
 use mathlib.Core.List.{List}
-use mathlib.Core.Path.{◌≡◌, refl, sym, ap, subst, ◌∙◌}
-use lib.ListN.{length, take, drop, length-drop}
-use Rattle.fields.specs.Parts.{head_of, tail_of, start_of}
+use mathlib.Core.Path.{◌≡◌, sym, ap, subst, ◌∙◌}
+use lib.ListN.{length, drop, length-drop}
+use Rattle.fields.specs.Parts.{head_of}
 use Rattle.fields.proofs.Parts.{started, from_start, upward, start_past}
 use Rattle.record.specs.Records.{record_of}
-use Rattle.text.specs.Reading.{newline, accepted, read_lines, lines_of, read_of, empty_read, room_of}
+use Rattle.text.specs.Reading.{newline, accepted, read_lines, lines_of, read_of, empty_read}
 use Rattle.text.proofs.Lines.{read_end, read_more, read_stop}
 use Rattle.text.proofs.Counts.{Counted, roomed, counted_none, counted_more}
 use Rattle.text.proofs.read.read.Goals as goal

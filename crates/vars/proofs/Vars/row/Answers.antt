@@ -1,10 +1,8 @@
-use native.Mathlib.Omega.{arith}
-use mathlib.Core.Path.{◌≡◌, ap, ◌∙◌}
+use mathlib.Core.Path.{ap, ◌∙◌}
 use mathlib.Core.List.{List}
 use lib.ListN.{take}
 use Rattle.pcode.specs.declared.var.VarId.{VarId}
 use Rattle.vars.specs.Vars.{row_of}
-use borrow.Author.Rules.{rules}
 use Rattle.vars.proofs.Vars.row.Goals as goal
 
 pub returns : goal.returns

@@ -1,4 +1,4 @@
-use Rattle.std.proofs.Common.{◌≡◌, ℕ, ◌+◌, ◌-◌, ◌*◌, ◌/◌, ◌%◌, ◌^◌, ◌<◌, ◌≤◌, sym, refl, ap, ◌∙◌, subst, arith, lit<, lit≤, rules}
+use Rattle.std.proofs.Common.{ℕ, ◌+◌, ◌*◌, ◌^◌, sym, ap, ◌∙◌, lit<, rules}
 use Rattle.wide.specs.Value.{value_of}
 use Rattle.wide.proofs.Laws.{in_two_steps}
 use Rattle.wide.proofs.Wide.add.Goals as goal

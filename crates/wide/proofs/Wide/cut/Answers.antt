@@ -1,6 +1,4 @@
-use Rattle.std.proofs.Common.{◌≡◌, ℕ, ◌+◌, ◌-◌, ◌*◌, ◌/◌, ◌%◌, ◌^◌, ◌<◌, ◌≤◌, sym, refl, ap, ◌∙◌, subst, le_trans, lt_of_lt_of_le, add-zero, mod-lt, mod-eq_of_lt, mul_comm, one-mul, div-one, arith, lit<, lit≤, pow_pos, pow_mono, pow-add, rules}
-use native.Mathlib.Nat.{div-eq_of_lt}
-use lib.Pow.{pow-lt}
+use Rattle.std.proofs.Common.{ℕ, ◌+◌, ◌-◌, ◌*◌, ◌%◌, ◌^◌, ◌<◌, sym, ap, ◌∙◌, subst, add-zero, mod-eq_of_lt, mul_comm, arith, lit<, pow_pos, rules}
 use Rattle.wide.specs.Value.{value_of}
 use Rattle.wide.proofs.Halves.{cut_low, cut_high}
 use Rattle.wide.proofs.Powers.{split_64, above_64, below_power}

@@ -1,4 +1,4 @@
-use Rattle.std.proofs.Common.{◌≡◌, ℕ, ◌+◌, ◌-◌, ◌*◌, ◌/◌, ◌%◌, ◌^◌, ◌<◌, ◌≤◌, sym, refl, ap, ◌∙◌, subst, arith, lit<, lit≤, rules}
+use Rattle.std.proofs.Common.{◌^◌, sym, lit<, rules}
 use Rattle.wide.specs.Value.{value_of}
 use Rattle.wide.proofs.Halves.{unequal, equal}
 use Rattle.wide.proofs.Wide.same.Goals as goal

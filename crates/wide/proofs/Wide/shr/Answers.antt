@@ -1,6 +1,5 @@
-use Rattle.std.proofs.Common.{◌≡◌, ℕ, ◌+◌, ◌-◌, ◌*◌, ◌/◌, ◌%◌, ◌^◌, ◌<◌, ◌≤◌, sym, refl, ap, ◌∙◌, subst, le_trans, lt_of_lt_of_le, add-zero, mod-lt, mod-eq_of_lt, one-mul, div-one, arith, lit<, lit≤, pow_pos, pow_mono, pow-add, rules}
+use Rattle.std.proofs.Common.{◌≡◌, ℕ, ◌+◌, ◌-◌, ◌*◌, ◌/◌, ◌^◌, sym, ap, ◌∙◌, add-zero, div-one, arith, lit<, pow_pos, rules}
 use native.Mathlib.Nat.{div-eq_of_lt}
-use lib.Pow.{pow-lt}
 use Rattle.wide.specs.Value.{value_of}
 use Rattle.wide.proofs.Halves.{shr_high, shr_low}
 use Rattle.wide.proofs.Powers.{split_64, above_64, below_power}

@@ -1,4 +1,4 @@
-use Rattle.std.proofs.Common.{◌≡◌, ℕ, ◌+◌, ◌-◌, ◌*◌, ◌/◌, ◌%◌, ◌^◌, ◌<◌, ◌≤◌, sym, refl, ap, ◌∙◌, subst, arith, lit<, lit≤, rules}
+use Rattle.std.proofs.Common.{◌^◌, lit<, rules}
 use Rattle.wide.specs.Value.{value_of}
 use Rattle.wide.proofs.Laws.{back_in_two_steps}
 use Rattle.wide.proofs.Wide.sub.Goals as goal

@@ -1,9 +1,7 @@
-use native.Mathlib.Omega.{arith}
-use mathlib.Core.Path.{◌≡◌, refl, sym, ◌∙◌, ap}
+use mathlib.Core.Path.{sym, ◌∙◌, ap}
 use Rattle.bit_vec.specs.declared.known.Constant.{Constant}
 use Rattle.widen.specs.Simple.{exit_of}
 use Rattle.widen.proofs.Branches.{exit_other}
-use borrow.Author.Rules.{rules}
 use Rattle.widen.proofs.simple.exit.Goals as goal
 
 pub returns-in-Open : goal.returns-in-Open

@@ -1,11 +1,8 @@
-use Prim.Native.Nat.{ℕ}
 use Rattle.bit_vec.specs.declared.known.Constant.TheVariants.{Known}
-use native.Mathlib.Omega.{arith}
-use mathlib.Core.Path.{◌≡◌, refl, sym, ◌∙◌, ap}
+use mathlib.Core.Path.{sym, ◌∙◌, ap}
 use Rattle.bit_vec.specs.declared.known.Constant.{Constant}
 use Rattle.widen.specs.Simple.{jump_of}
 use Rattle.widen.proofs.Branches.{jump_other}
-use borrow.Author.Rules.{rules}
 use Rattle.widen.proofs.simple.jump.Goals as goal
 
 pub returns-then-k-eq1 : goal.returns-then-k-eq1

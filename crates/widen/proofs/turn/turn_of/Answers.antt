@@ -1,8 +1,6 @@
-use native.Mathlib.Omega.{arith}
-use mathlib.Core.Path.{◌≡◌, refl, sym, ◌∙◌, ap}
+use mathlib.Core.Path.{sym, ◌∙◌, ap}
 use Rattle.pcode.specs.declared.op.Op.{Op}
 use Rattle.widen.specs.Turn.{turn_of}
-use borrow.Author.Rules.{rules}
 use Rattle.widen.proofs.turn.turn_of.Goals as goal
 
 pub returns-in-PcodeLabel : goal.returns-in-PcodeLabel

@@ -1,6 +1,4 @@
-use native.Mathlib.Omega.{arith}
-use mathlib.Core.Path.{◌≡◌, refl, sym, ◌∙◌, ap}
-use Prim.Native.Nat.{ℕ}
+use mathlib.Core.Path.{◌∙◌, ap}
 use Rattle.pcode.specs.Block.{stmt_of}
 use Rattle.pcode.specs.declared.op.OneOp.TheVariants.{Copy, ZeroExtend}
 use Rattle.pcode.specs.declared.op.Op.TheVariants.{One as OneOf}
@@ -8,7 +6,6 @@ use Rattle.pcode.specs.declared.var.Operand.{Operand}
 use Rattle.pcode.specs.declared.var.Operand.TheVariants.{None, Const, Var}
 use Rattle.pcode.specs.declared.var.Output.{Output}
 use Rattle.widen.proofs.Sizes.{copied_narrow, copied_wide}
-use borrow.Author.Rules.{rules}
 use Rattle.widen.proofs.widen.copied.Goals as goal
 
 pub returns-then-w-eq0 : goal.returns-then-w-eq0

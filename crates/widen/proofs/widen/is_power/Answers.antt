@@ -1,6 +1,4 @@
-use borrow.Author.Rules.{rules}
-use native.Mathlib.Omega.{arith}
-use mathlib.Core.Path.{◌≡◌, refl, sym, ◌∙◌, ap}
+use mathlib.Core.Path.{sym}
 use borrow.Author.Tests.{eq-eqb, ne_eqb}
 use Rattle.widen.proofs.widen.is_power.Goals as goal
 

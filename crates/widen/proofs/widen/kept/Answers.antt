@@ -1,16 +1,4 @@
-use native.Mathlib.Omega.{arith}
-use mathlib.Core.Path.{◌≡◌, refl, sym, ◌∙◌, ap, subst}
-use Prim.Native.Nat.{ℕ}
-use Rattle.pcode.specs.Block.{stmt_of}
-use Rattle.pcode.specs.declared.op.OneOp.TheVariants.{ZeroExtend}
-use Rattle.pcode.specs.declared.op.Op.TheVariants.{One as OneOf}
-use Rattle.pcode.specs.declared.var.Operand.{Operand}
-use Rattle.pcode.specs.declared.var.Operand.TheVariants.{None}
-use Rattle.pcode.specs.declared.var.Output.{Output}
-use Rattle.pcode.specs.declared.block.Stmt.{Stmt}
-use Rattle.widen.specs.Widen.{two_m}
 use Rattle.widen.proofs.Sizes.{kept_narrow, kept_refused, kept_added, kept_pair}
-use borrow.Author.Rules.{rules}
 use Rattle.widen.proofs.widen.kept.Goals as goal
 
 pub returns-then-w-eq0 : goal.returns-then-w-eq0

@@ -1,5 +1,4 @@
-use native.Mathlib.Omega.{arith}
-use mathlib.Core.Path.{◌≡◌, refl, sym, ◌∙◌, ap, subst}
+use mathlib.Core.Path.{sym, ◌∙◌, ap, subst}
 use Prim.Native.Nat.{ℕ, ◌≤◌}
 use lib.ListN.{length}
 use Rattle.pcode.specs.declared.var.Output.{Output}
@@ -7,7 +6,6 @@ use Rattle.const_eval.specs.declared.place.Place.{Place}
 use Rattle.const_eval.specs.Known.{Within}
 use Rattle.widen.specs.Widen.{stays_of, kept_of, widened_of, InRows}
 use Rattle.widen.proofs.Sizes.{widened_le}
-use borrow.Author.Rules.{rules}
 use Rattle.widen.proofs.widen.stays.Goals as goal
 
 pub widened-w-requires : goal.widened-w-requires

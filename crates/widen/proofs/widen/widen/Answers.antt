@@ -1,5 +1,4 @@
-use native.Mathlib.Omega.{arith}
-use mathlib.Core.Path.{◌≡◌, refl, sym, ◌∙◌, ap, subst}
+use mathlib.Core.Path.{sym, ◌∙◌, ap, subst}
 use Prim.Native.Nat.{ℕ, ◌≤◌}
 use lib.ListN.{length}
 use Rattle.pcode.specs.declared.block.Stmt.{Stmt}
@@ -8,7 +7,6 @@ use Rattle.const_eval.specs.Known.{Within}
 use Rattle.widen.specs.declared.simple.Simple.{Simple}
 use Rattle.widen.specs.Widen.{made_of, one_m, copied_of, widened_of, InSimple}
 use Rattle.widen.proofs.Sizes.{widened_le}
-use borrow.Author.Rules.{rules}
 use Rattle.widen.proofs.widen.widen.Goals as goal
 
 pub widened-w-requires : goal.widened-w-requires

@@ -1,11 +1,10 @@
 use native.Mathlib.Omega.{arith}
-use mathlib.Core.Path.{◌≡◌, refl, sym, ◌∙◌, ap}
-use Prim.Native.Nat.{ℕ, ◌+◌, ◌≤◌}
+use mathlib.Core.Path.{◌≡◌, sym, ◌∙◌, ap}
+use Prim.Native.Nat.{◌+◌}
 use mathlib.Core.Bool.{Bool}
 use Rattle.pcode.specs.Var.{pick}
 use Rattle.widen.specs.Widen.{zeros_above}
 use Rattle.widen.proofs.Sizes.{widened_inner, widened_none, widened_size, zeros_le}
-use borrow.Author.Rules.{rules}
 use Rattle.widen.proofs.widen.widened.Goals as goal
 
 pub returns-then-p-ne0 : goal.returns-then-p-ne0

@@ -1,6 +1,4 @@
-use native.Mathlib.Omega.{arith}
 use Rattle.widen.proofs.Sizes.{zeros_slice}
-use borrow.Author.Rules.{rules}
 use Rattle.widen.proofs.widen.zeros_above.Goals as goal
 
 pub returns : goal.returns

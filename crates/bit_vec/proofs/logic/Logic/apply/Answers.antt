@@ -1,4 +1,3 @@
-use borrow.Author.Rules.{rules}
 use Rattle.bit_vec.proofs.logic.Logic.apply.Goals as goal
 
 pub returns-in-And : goal.returns-in-And

@@ -1,4 +1,3 @@
-use borrow.Author.Rules.{rules}
 use Rattle.bit_vec.proofs.ripple.Place.step.Goals as goal
 
 pub returns-in-Add : goal.returns-in-Add

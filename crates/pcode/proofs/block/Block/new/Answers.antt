@@ -1,9 +1,7 @@
-use native.Mathlib.Omega.{arith}
 use mathlib.Core.Path.{ap}
 use mathlib.Core.List.{List}
 use Rattle.pcode.specs.declared.block.Stmt.{Stmt}
 use Rattle.pcode.specs.declared.block.Block.{Block}
-use borrow.Author.Rules.{rules}
 use Rattle.pcode.proofs.block.Block.new.Goals as goal
 
 abbrev zero_of : List Stmt → Block

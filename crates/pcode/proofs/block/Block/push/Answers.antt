@@ -1,6 +1,4 @@
-use native.Mathlib.Omega.{arith}
 use borrow.Author.Tests.{lt-ltb, le-ltb}
-use borrow.Author.Rules.{rules}
 use Rattle.pcode.proofs.block.Block.push.Goals as goal
 
 pub returns-then-at-ge129 : goal.returns-then-at-ge129

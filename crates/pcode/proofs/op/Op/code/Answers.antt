@@ -1,7 +1,5 @@
-use native.Mathlib.Omega.{arith}
 use mathlib.Core.Path.{sym, ap, ◌∙◌}
 use Rattle.pcode.specs.Names.{code_of}
-use borrow.Author.Rules.{rules}
 use Rattle.pcode.proofs.op.Op.code.Goals as goal
 
 pub returns-in-Trap : goal.returns-in-Trap

@@ -1,9 +1,6 @@
-use native.Mathlib.Omega.{arith}
-use Prim.Native.Nat.{ℕ}
-use mathlib.Core.Path.{sym, ap, ◌∙◌}
+use mathlib.Core.Path.{sym, ◌∙◌}
 use borrow.Author.Tests.{lt-ltb, le-ltb}
 use Rattle.pcode.specs.Names.{op_of}
-use borrow.Author.Rules.{rules}
 use Rattle.pcode.proofs.op.Op.named.Goals as goal
 
 pub returns-then-code-lt8 : goal.returns-then-code-lt8

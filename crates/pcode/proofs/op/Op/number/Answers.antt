@@ -1,7 +1,5 @@
-use native.Mathlib.Omega.{arith}
-use mathlib.Core.Path.{sym, ap, ◌∙◌}
+use mathlib.Core.Path.{sym, ap}
 use Rattle.pcode.specs.Names.{number_of}
-use borrow.Author.Rules.{rules}
 use Rattle.pcode.proofs.op.Op.number.Goals as goal
 
 pub returns-in-PcodeLabel : goal.returns-in-PcodeLabel

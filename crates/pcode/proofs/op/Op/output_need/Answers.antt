@@ -1,7 +1,5 @@
-use native.Mathlib.Omega.{arith}
 use mathlib.Core.Path.{sym, ap, ◌∙◌}
 use Rattle.pcode.specs.Rules.{output_need}
-use borrow.Author.Rules.{rules}
 use Rattle.pcode.proofs.op.Op.output_need.Goals as goal
 
 pub returns-in-Call : goal.returns-in-Call

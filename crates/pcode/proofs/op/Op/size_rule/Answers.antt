@@ -1,7 +1,5 @@
-use native.Mathlib.Omega.{arith}
 use mathlib.Core.Path.{sym, ap, ◌∙◌}
 use Rattle.pcode.specs.Rules.{size_rule}
-use borrow.Author.Rules.{rules}
 use Rattle.pcode.proofs.op.Op.size_rule.Goals as goal
 
 pub returns-in-Subpiece : goal.returns-in-Subpiece

@@ -1,9 +1,6 @@
-use native.Mathlib.Omega.{arith}
-use Prim.Native.Nat.{ℕ}
 use mathlib.Core.Path.{sym, ap, ◌∙◌}
 use Rattle.pcode.specs.Rules.{fits_rule}
 use Rattle.pcode.specs.declared.op.SizeRule.{SizeRule}
-use borrow.Author.Rules.{rules}
 use Rattle.pcode.proofs.op.SizeRule.met.Goals as goal
 
 pub returns-in-FirstIsOutput : goal.returns-in-FirstIsOutput

@@ -1,10 +1,9 @@
 use native.Mathlib.Omega.{arith}
-use Prim.Native.Nat.{ℕ, ◌%◌, ◌*◌, ◌<◌, ◌^◌}
-use mathlib.Core.Path.{◌≡◌, ap, sym, subst}
+use Prim.Native.Nat.{ℕ, ◌%◌, ◌*◌, ◌<◌}
+use mathlib.Core.Path.{ap, sym, subst}
 use lib.Pow.{pow_pos}
 use Rattle.pcode.specs.declared.var.Operand.TheVariants.{Const}
 use Rattle.pcode.proofs.Cut.{power, whole}
-use borrow.Author.Rules.{rules}
 use Rattle.pcode.proofs.var.Operand.constant.Goals as goal
 
 pub nonzero_rem-result : goal.nonzero_rem-result

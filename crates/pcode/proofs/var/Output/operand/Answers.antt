@@ -1,7 +1,5 @@
-use native.Mathlib.Omega.{arith}
 use mathlib.Core.Path.{sym, ap}
 use Rattle.pcode.specs.Var.{as_operand}
-use borrow.Author.Rules.{rules}
 use Rattle.pcode.proofs.var.Output.operand.Goals as goal
 
 pub returns-in-Var : goal.returns-in-Var

@@ -1,5 +1,3 @@
-use borrow.Author.Rules.{rules}
-use native.Mathlib.Omega.{arith}
 use mathlib.Core.Path.{◌≡◌, ap, ◌∙◌, sym}
 use mathlib.Core.Bool.{false, true}
 use lib.Dec.{lit<}
@@ -8,7 +6,7 @@ use mir.Syntax.{w16}
 use mir.Val.{SFits, to_z, of_z}
 use mir.Facts.{to_z-of_z}
 use borrow.Author.Tests.{eq-eqb, ne_eqb}
-use Rattle.pcode.specs.Var.{eq_z, pick}
+use Rattle.pcode.specs.Var.{eq_z}
 use Rattle.pcode.specs.declared.var.VarId.{VarId}
 use Rattle.pcode.proofs.Ids.{same_bits, one_less}
 use Rattle.pcode.proofs.var.VarId.below.Goals as goal

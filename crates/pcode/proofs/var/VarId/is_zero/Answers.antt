@@ -1,5 +1,3 @@
-use borrow.Author.Rules.{rules}
-use native.Mathlib.Omega.{arith}
 use mir.Syntax.{w16}
 use lib.IntN.{pos}
 use lib.Dec.{lit<}

@@ -1,6 +1,4 @@
-use native.Mathlib.Omega.{arith}
 use mathlib.Core.Path.{sym, ◌∙◌}
-use borrow.Author.Rules.{rules}
 use Rattle.pcode.proofs.var.VarId.least.Goals as goal
 
 pub returns-then-less : goal.returns-then-less

@@ -1,5 +1,3 @@
-use borrow.Author.Rules.{rules}
-use native.Mathlib.Omega.{arith}
 use mir.Syntax.{w16}
 use Rattle.pcode.proofs.Ids.{same_bits}
 use Rattle.pcode.proofs.var.VarId.same.Goals as goal

@@ -1,7 +1,5 @@
-use native.Mathlib.Omega.{arith}
 use mathlib.Core.Path.{sym, ap, ◌∙◌}
 use Rattle.text.specs.Reading.{accepted}
-use borrow.Author.Rules.{rules}
 use Rattle.text.proofs.answer.Read.accept.Goals as goal
 
 pub returns-in-Bad : goal.returns-in-Bad

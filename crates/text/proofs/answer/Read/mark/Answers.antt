@@ -1,7 +1,5 @@
-use native.Mathlib.Omega.{arith}
 use borrow.Author.Tests.{lt-ltb, le-ltb, le-leb, lt-leb}
 use Rattle.text.specs.Reading.{accepted_mark}
-use borrow.Author.Rules.{rules}
 use Rattle.text.proofs.answer.Read.mark.Goals as goal
 
 pub returns-then-block-gt0 : goal.returns-then-block-gt0

@@ -1,6 +1,4 @@
-use native.Mathlib.Omega.{arith}
 use Rattle.text.specs.Reading.{refused_read}
-use borrow.Author.Rules.{rules}
 use Rattle.text.proofs.answer.Read.refused.Goals as goal
 
 pub returns : goal.returns

@@ -1,7 +1,5 @@
-use native.Mathlib.Omega.{arith}
 use borrow.Author.Tests.{le-leb, lt-leb}
 use Rattle.text.specs.Reading.{accepted_stmt}
-use borrow.Author.Rules.{rules}
 use Rattle.text.proofs.answer.Read.statement.Goals as goal
 
 pub returns-then-limit-n : goal.returns-then-limit-n

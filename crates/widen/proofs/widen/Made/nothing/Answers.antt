@@ -1,10 +1,7 @@
-use native.Mathlib.Omega.{arith}
-use mathlib.Core.Path.{◌≡◌, refl, sym, ◌∙◌, ap}
+use mathlib.Core.Path.{◌∙◌, ap}
 use Rattle.pcode.specs.Block.{blank_stmt}
 use Rattle.pcode.specs.declared.block.Stmt.{Stmt}
-use Rattle.widen.specs.declared.widen.Made.{Made}
 use Rattle.widen.specs.declared.widen.Why.TheVariants as Whys
-use borrow.Author.Rules.{rules}
 use Rattle.widen.proofs.widen.Made.nothing.Goals as goal
 
 pub returns : goal.returns
