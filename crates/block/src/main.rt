@@ -1,8 +1,8 @@
 // The block program: standard input through both passes to standard output.
 #![tactic(auto)]
 
-ghost use Rattle.std.specs.Prelude.{◌+◌, ◌≤◌, ◌<◌, ◌≡◌, length, take, IfOk};
-ghost use Rattle.std.specs.Io.KnownBytes.{Consumes, IsAtEnd};
+ghost use Rattle.std.specs.Prelude.{◌+◌, ◌≤◌, ◌<◌, ◌≡◌, length, take, IfOk, OnOk, IfSome};
+ghost use Rattle.std.specs.Io.KnownBytes.{Appends, Consumes, IsAtEnd};
 ghost use Rattle.print.specs.Rooms.{block_room};
 ghost use Rattle.print.specs.Texts.{written};
 ghost use Rattle.front.specs.Front.{input_room, answer_of};
@@ -11,7 +11,7 @@ ghost use Rattle.front.specs.declared.Pass.TheVariants.{Both};
 use front::{Pass, treat};
 use print::print::Printed;
 use std::io;
-use std::io::Read;
+use std::io::{Read, Write};
 
 // Room for the bytes that decide every answer: `beginning-decides` of crates/front.
 fn room() -> [u8; 32768]
@@ -56,17 +56,27 @@ fn fill<R: Read>(from: &mut R, input: &mut [u8]) -> io::Result<usize>
     Ok(done)
 }
 
-fn show(rt: &impl Print, out: &[u8], n: usize) -> io::Result<()> {
+// The first `n` bytes of the page.
+fn show<W: Write>(to: &mut W, out: &[u8], n: usize) -> io::Result<()>
+    ensures { OnOk result (n ≤ length out.now → Appends (W.contents to.old) (W.contents to.new) (take n out.now)) }
+{
     if out.len() < n {
         return Ok(());
     }
-    rt.write_all(&out[..n])
+    to.write_all(&out[..n])
+}
+
+// The text that answers all that `from` gives goes to `to`, and nothing else, unless a read or a write fails.
+fn run<R: Read, W: Write>(from: &mut R, to: &mut W) -> io::Result<()>
+    ensures { OnOk result (IfSome (R.remaining from.old) (λ bytes. Appends (W.contents to.old) (W.contents to.new) (answer_of Both bytes).text)) }
+{
+    let mut input = room();
+    let mut out = page();
+    let n = fill(from, &mut input)?;
+    let k = answer(&input[..n], &mut out);
+    show(to, &out, k)
 }
 
 fn main(rt: HostRuntime) -> io::Result<()> {
-    let mut input = room();
-    let mut out = page();
-    let n = fill(&mut rt.stdin(), &mut input)?;
-    let k = answer(&input[..n], &mut out);
-    show(&rt, &out, k)
+    run(&mut rt.stdin(), &mut rt.stdout())
 }
