@@ -13,14 +13,14 @@ use print::print::Printed;
 use std::io;
 use std::io::{Read, Write};
 
-// Room for the bytes that decide every answer: `beginning-decides` of crates/front.
+// Room for the bytes that decide every answer: `beginning_decides` of crates/front.
 fn room() -> [u8; 32768]
     ensures { (32768 ≡ length result) × (input_room Both ≤ length result) }
 {
     [0u8; 32768]
 }
 
-// Room for the largest result: `page-suffices` of crates/front.
+// Room for the largest result: `page_suffices` of crates/front.
 fn page() -> [u8; 16384]
     ensures { (16384 ≡ length result) × (block_room ≤ length result) }
 {
