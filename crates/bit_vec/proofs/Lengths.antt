@@ -16,7 +16,7 @@ use Rattle.bit_vec.specs.declared.ripple.Place.{Place}
 use Rattle.bit_vec.specs.declared.known.Constant.{Constant}
 use Rattle.bit_vec.specs.declared.known.Constant.TheVariants.{Known, Open}
 use Rattle.bit_vec.specs.Lists.{scan, scanned, carry_b, place_step, ripple_carry, last_place}
-use Rattle.bit_vec.specs.Moves.{up, down, rotateLeft, truth}
+use Rattle.bit_vec.specs.Moves.{up, down, rotate_left, truth}
 use Rattle.bit_vec.specs.Known.{const_of, least, shift_by, shift_of}
 use Rattle.bit_vec.proofs.Shifted.{const_least}
 
@@ -34,7 +34,7 @@ module _ {A : Type 0} (z : A) (k : ℕ) (xs : List A) (h : k ≤ length xs) wher
   pub length_down : length (down z k xs) ≡ length xs
   length_down = length-append (drop k xs) (replicate k z) ∙ rw (length-replicate k z, length-drop k xs) (omega arith)
 
-pub length_rotate : {A : Type 0} (s : ℕ) (xs : List A) → s ≤ length xs → length (rotateLeft s xs) ≡ length xs
+pub length_rotate : {A : Type 0} (s : ℕ) (xs : List A) → s ≤ length xs → length (rotate_left s xs) ≡ length xs
 length_rotate s xs h = length-append (drop s xs) (take s xs) ∙ rw (length-drop s xs, length-take-le s xs h) (omega arith)
 
 -- a shift by an amount, of a move that keeps the length

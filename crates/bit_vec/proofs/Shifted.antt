@@ -13,7 +13,7 @@ use Rattle.bit.specs.Bits.{pick}
 use Rattle.bit.specs.declared.Bit.{Bit}
 use Rattle.bit_vec.specs.declared.known.Constant.{Constant}
 use Rattle.bit_vec.specs.declared.known.Constant.TheVariants.{Known, Open}
-use Rattle.bit_vec.specs.Moves.{fit, up, down, rotateLeft}
+use Rattle.bit_vec.specs.Moves.{fit, up, down, rotate_left}
 use Rattle.bit_vec.specs.Known.{const_from, const_of, least, shift_of}
 use Rattle.bit_vec.proofs.Moved.{fit_cut, fit_extend}
 use Rattle.bit_vec.proofs.Fold.{Good, const_good}
@@ -60,7 +60,7 @@ down_law out a f k z e h hf =
 pub rotate_law : (out a f m : List ℕ) (s z : ℕ) → length a ≡ length out → s ≤ length out
     → m ≡ fit z (length (mid_of (length out - s) (length out - (length out - s)) out)) a
     → f ≡ fit z (length (take (length out - s) (put_mid (length out - s) (length out - (length out - s)) out m))) (take (length a - s) (drop s a))
-    → f ++ drop (length out - s) (put_mid (length out - s) (length out - (length out - s)) out m) ≡ rotateLeft s a
+    → f ++ drop (length out - s) (put_mid (length out - s) (length out - (length out - s)) out m) ≡ rotate_left s a
 rotate_law out a f m s z e h hm hf =
     let n : ℕ = length out - s in
     let hn : n ≤ length out = omega arith in

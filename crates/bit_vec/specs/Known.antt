@@ -101,5 +101,5 @@ abbrev pub left_of {ℓ} : {A : Type ℓ} → A → A → List A → List Bit �
 left_of z = shift_of (up z) z
 
 -- right: high places are set to zero or the sign, z
-abbrev pub rightOf {ℓ} : {A : Type ℓ} → A → A → List A → List Bit → List A
-rightOf z = shift_of (down z) z
+abbrev pub right_of {ℓ} : {A : Type ℓ} → A → A → List A → List Bit → List A
+right_of z = shift_of (down z) z

@@ -24,12 +24,12 @@ abbrev pub down {ℓ} : {A : Type ℓ} → A → ℕ → List A → List A
 down z k xs = drop k xs ++ replicate k z
 
 -- `IntRotateLeft` by s: input bit (i+s) modulo the width at i
-abbrev pub rotateLeft {ℓ} : {A : Type ℓ} → ℕ → List A → List A
-rotateLeft s xs = drop s xs ++ take s xs
+abbrev pub rotate_left {ℓ} : {A : Type ℓ} → ℕ → List A → List A
+rotate_left s xs = drop s xs ++ take s xs
 
 -- `IntRotateRight`: the reverse
-abbrev pub rotateRight {ℓ} : {A : Type ℓ} → ℕ → List A → List A
-rotateRight s xs = rotateLeft (length xs - s) xs
+abbrev pub rotate_right {ℓ} : {A : Type ℓ} → ℕ → List A → List A
+rotate_right s xs = rotate_left (length xs - s) xs
 
 -- a truth value of n bits: bit 0, the rest zero
 abbrev pub truth : ℕ → Bit → List Bit

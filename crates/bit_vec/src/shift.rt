@@ -2,8 +2,8 @@
 ghost use Rattle.std.specs.Prelude.{◌≡◌, ◌≤◌, length, replicate};
 ghost use Rattle.bit.specs.Bits.{code_of};
 ghost use Rattle.bit_vec.specs.Lists.{bits};
-ghost use Rattle.bit_vec.specs.Moves.{last_of, up, down, rotateLeft, rotateRight};
-ghost use Rattle.bit_vec.specs.Known.{left_of, rightOf};
+ghost use Rattle.bit_vec.specs.Moves.{last_of, up, down, rotate_left, rotate_right};
+ghost use Rattle.bit_vec.specs.Known.{left_of, right_of};
 
 use crate::known::{Constant, get_const, min};
 use crate::moves::{copy_any, fill, repeat, sign};
@@ -65,7 +65,7 @@ pub fn shift_left(out: &mut [u64], a: &[u64], shift: &[u64])
 // `a` shifted right by the bits of `shift`, with `high` from above.
 pub fn shift_right(out: &mut [u64], a: &[u64], shift: &[u64], high: u64)
     requires { length a.now ≡ length out.old }
-    ensures { out.new ≡ rightOf high (code_of Bit.Unknown) a.now (bits shift.now) }
+    ensures { out.new ≡ right_of high (code_of Bit.Unknown) a.now (bits shift.now) }
 {
     let m = min(shift) as usize;
     if out.len() <= m {
@@ -81,7 +81,7 @@ pub fn shift_right(out: &mut [u64], a: &[u64], shift: &[u64], high: u64)
 // `a` shifted right by the bits of `shift`, with its sign from above.
 pub fn shift_right_signed(out: &mut [u64], a: &[u64], shift: &[u64])
     requires { length a.now ≡ length out.old }
-    ensures { out.new ≡ rightOf (last_of (code_of Bit.Zero) a.now) (code_of Bit.Unknown) a.now (bits shift.now) }
+    ensures { out.new ≡ right_of (last_of (code_of Bit.Zero) a.now) (code_of Bit.Unknown) a.now (bits shift.now) }
 {
     let high = sign(a);
     shift_right(out, a, shift, high);
@@ -90,7 +90,7 @@ pub fn shift_right_signed(out: &mut [u64], a: &[u64], shift: &[u64])
 // Bit (i + s) modulo the width of `a` at place i.
 pub fn rotate_left(out: &mut [u64], a: &[u64], s: usize)
     requires { (length a.now ≡ length out.old) × (s ≤ length out.old) }
-    ensures { out.new ≡ rotateLeft s a.now }
+    ensures { out.new ≡ rotate_left s a.now }
 {
     let n = out.len() - s;
     copy_any(&mut out[n..], a, 0);
@@ -100,7 +100,7 @@ pub fn rotate_left(out: &mut [u64], a: &[u64], s: usize)
 // Bit i of `a` at place (i + s) modulo the width.
 pub fn rotate_right(out: &mut [u64], a: &[u64], s: usize)
     requires { (length a.now ≡ length out.old) × (s ≤ length out.old) }
-    ensures { out.new ≡ rotateRight s a.now }
+    ensures { out.new ≡ rotate_right s a.now }
 {
     let n = out.len() - s;
     rotate_left(out, a, n);

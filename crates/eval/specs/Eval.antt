@@ -8,8 +8,8 @@ use Rattle.bit_vec.specs.declared.known.Constant.TheVariants.{Known, Open}
 use Rattle.bit_vec.specs.declared.logic.Logic.TheVariants as Logic
 use Rattle.bit_vec.specs.declared.ripple.Ripple.TheVariants.{Add, Sub}
 use Rattle.bit_vec.specs.Lists.{logic_b, zip_bits, ripple_bits, last_place, add_overflow, sub_overflow, eq_bits}
-use Rattle.bit_vec.specs.Moves.{fit, last_of, up, rotateLeft, rotateRight, digits}
-use Rattle.bit_vec.specs.Known.{const_of, count_ones, leading_zeros, trailing_zeros, left_of, rightOf}
+use Rattle.bit_vec.specs.Moves.{fit, last_of, up, rotate_left, rotate_right, digits}
+use Rattle.bit_vec.specs.Known.{const_of, count_ones, leading_zeros, trailing_zeros, left_of, right_of}
 use Rattle.pcode.specs.declared.op.OneOp.{OneOp}
 use Rattle.pcode.specs.declared.op.OneOp.TheVariants.{Copy, ZeroExtend, SignExtend, IntNot, IntNegate, IntCountOnes, IntCountLeadingZeroes, BoolNot}
 use Rattle.pcode.specs.declared.op.TwoOp.{TwoOp}
@@ -86,8 +86,8 @@ two_of h IntMul a b n = mul_of h a b n
 -- a value a and an amount b
 abbrev pub shift_bits : {A : Type 0} → Held A → ShiftOp → List A → List A → List A
 shift_bits h IntLeft a b = left_of (zero_of h) (unknown_of h) a (read_all h b)
-shift_bits h IntRight a b = rightOf (zero_of h) (unknown_of h) a (read_all h b)
-shift_bits h IntSignedRight a b = rightOf (last_of (zero_of h) a) (unknown_of h) a (read_all h b)
+shift_bits h IntRight a b = right_of (zero_of h) (unknown_of h) a (read_all h b)
+shift_bits h IntSignedRight a b = right_of (last_of (zero_of h) a) (unknown_of h) a (read_all h b)
 
 -- what evaluating comes to: its answer, and the output's cells afterwards
 pub record Outcome (A : Type 0) : Type 0 where
@@ -100,8 +100,8 @@ done xs = record { answer = Done; cells = xs }
 
 -- a rotate by s
 abbrev pub turn_of : {A : Type 0} → RotateOp → ℕ → List A → List A
-turn_of IntRotateLeft s a = rotateLeft s a
-turn_of IntRotateRight s a = rotateRight s a
+turn_of IntRotateLeft s a = rotate_left s a
+turn_of IntRotateRight s a = rotate_right s a
 
 -- s not known, all unknown; a known s above the width is refused
 abbrev pub rotate_by : {A : Type 0} → Held A → RotateOp → Constant → List A → List A → Outcome A

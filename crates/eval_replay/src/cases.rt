@@ -1,7 +1,7 @@
 // One record of the list: its operation, evaluated, and its answer, compared.
 ghost use Rattle.std.specs.Prelude.{◌≤◌, ◌<◌, ◌≡◌, length};
 
-use crate::fields::{field, number, numbers};
+use crate::record_fields::{field, number, numbers};
 use eval::Evaluated;
 use pcode::name::{name_byte, name_len};
 use pcode::op::Op;

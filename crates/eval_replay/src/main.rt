@@ -3,7 +3,7 @@
 
 ghost use Rattle.std.specs.Prelude.{◌≡◌, length};
 
-mod fields; // fields.rt: the fields of a record
+mod record_fields; // record_fields.rt: the fields of a record
 mod cases; // cases.rt: one record, evaluated and compared
 
 use sections::input::fill;
@@ -21,7 +21,7 @@ fn replay(list: &[u8], a: &mut [u64], b: &mut [u64], out: &mut [u64], want: &mut
     let mut tally = Tally::NONE;
     let mut at = 0;
     while at < list.len() {
-        let end = fields::stop(list, at, b'\n');
+        let end = record_fields::stop(list, at, b'\n');
         let same = cases::agrees(&list[at..end], a, b, out, want);
         tally = tally.with(same);
         at = end + 1;

@@ -10,7 +10,7 @@ use lib.Dec.{eqb, leb, ltb}
 use lib.ListN.{length, get_or, drop, drop_of_length-le}
 use lib.Seq.{drop-cons}
 use Rattle.pcode.specs.Var.{pick}
-use Rattle.fields.specs.Decimals.{step_of, onValue, digits_of, decimal_of}
+use Rattle.fields.specs.Decimals.{step_of, on_value, digits_of, decimal_of}
 use Rattle.fields.specs.declared.decimal.Parsed.{Parsed}
 use Rattle.fields.specs.declared.decimal.Parsed.TheVariants.{Bad, Value}
 
@@ -95,7 +95,7 @@ digits_bounded limit [] u v h e = let q : u ≡ v = cc in omega arith
 digits_bounded limit (b ∷ s) u v h e₀ = go (step_of limit u b) refl (digits_bounded limit s) e₀
   where
     go : (p : Parsed) → step_of limit u b ≡ p → ((u v : ℕ) → u ≤ limit → digits_of limit u s ≡ Value v → v ≤ limit) →
-        onValue p Bad (λ w. digits_of limit w s) ≡ Value v → v ≤ limit
+        on_value p Bad (λ w. digits_of limit w s) ≡ Value v → v ≤ limit
     go Bad q f e = absurd (clash v e)
     go (Value w) q f e = f w v (step_bounded limit u b w q) e
 

@@ -12,14 +12,14 @@ step_of limit v b =
     (pick (leb (10 * v + (b - 48)) limit) (Value (10 * v + (b - 48))) Bad))
 
 -- what follows a value
-abbrev pub onValue {ℓ} : {A : Type ℓ} → Parsed → A → (ℕ → A) → A
-onValue Bad bad good = bad
-onValue (Value v) bad good = good v
+abbrev pub on_value {ℓ} : {A : Type ℓ} → Parsed → A → (ℕ → A) → A
+on_value Bad bad good = bad
+on_value (Value v) bad good = good v
 
 -- the value of the digits that follow a value v
 unfoldable pub digits_of : ℕ → ℕ → List ℕ → Parsed
 digits_of limit v [] = Value v
-digits_of limit v (b ∷ s) = onValue (step_of limit v b) Bad (λ w. digits_of limit w s)
+digits_of limit v (b ∷ s) = on_value (step_of limit v b) Bad (λ w. digits_of limit w s)
 
 -- decimal, no leading zeros: at least one digit, and at most the limit
 unfoldable pub decimal_of : ℕ → List ℕ → Parsed

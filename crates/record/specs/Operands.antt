@@ -5,7 +5,7 @@ use Rattle.pcode.specs.declared.var.Operand.TheVariants.{None, Const, Var}
 use Rattle.pcode.specs.declared.var.Output.TheVariants as Output
 use Rattle.pcode.specs.declared.var.VarId.{VarId}
 use Rattle.fields.specs.Parts.{part_of, count_of}
-use Rattle.fields.specs.Decimals.{decimal_of, onValue}
+use Rattle.fields.specs.Decimals.{decimal_of, on_value}
 use Rattle.record.specs.declared.operand.ReadId.{ReadId}
 use Rattle.record.specs.declared.operand.ReadVar.{ReadVar}
 use Rattle.record.specs.declared.operand.ReadOperand.{ReadOperand}
@@ -33,21 +33,21 @@ unfoldable pub id_of : List ℕ → ReadId
 id_of s =
     pick (eqb (length s) 0) ReadId.Bad
     (pick (eqb (get_or s 0 0) dash)
-    (onValue (decimal_of 32768 (drop 1 s)) ReadId.Bad (λ v. pick (eqb v 0) ReadId.Bad (ReadId.Good (record { 0 = negsuc (v - 1) }))))
-    (onValue (decimal_of 32767 s) ReadId.Bad (λ v. ReadId.Good (record { 0 = pos v }))))
+    (on_value (decimal_of 32768 (drop 1 s)) ReadId.Bad (λ v. pick (eqb v 0) ReadId.Bad (ReadId.Good (record { 0 = negsuc (v - 1) }))))
+    (on_value (decimal_of 32767 s) ReadId.Bad (λ v. ReadId.Good (record { 0 = pos v }))))
 
 -- what follows an id that was read
-abbrev pub onId {ℓ} : {A : Type ℓ} → ReadId → A → (VarId → A) → A
-onId ReadId.Bad bad good = bad
-onId (ReadId.Good v) bad good = good v
+abbrev pub on_id {ℓ} : {A : Type ℓ} → ReadId → A → (VarId → A) → A
+on_id ReadId.Bad bad good = bad
+on_id (ReadId.Good v) bad good = good v
 
 -- id, offset, size; offsets and sizes 0 to 255
 unfoldable pub var_of : List ℕ → ReadVar
 var_of s =
     pick (eqb (count_of colon s) 2)
-    (onId (id_of (part_of colon s 0)) ReadVar.Bad λ v.
-    onValue (decimal_of 255 (part_of colon s 1)) ReadVar.Bad λ o.
-    onValue (decimal_of 255 (part_of colon s 2)) ReadVar.Bad λ n.
+    (on_id (id_of (part_of colon s 0)) ReadVar.Bad λ v.
+    on_value (decimal_of 255 (part_of colon s 1)) ReadVar.Bad λ o.
+    on_value (decimal_of 255 (part_of colon s 2)) ReadVar.Bad λ n.
     ReadVar.Good (record { id = v; offset = o; size = n }))
     ReadVar.Bad
 
@@ -55,8 +55,8 @@ var_of s =
 unfoldable pub const_of : List ℕ → ReadOperand
 const_of s =
     pick (eqb (count_of colon s) 1)
-    (onValue (decimal_of (2 ^ 64 - 1) (part_of colon s 0)) Bad λ v.
-    onValue (decimal_of 255 (part_of colon s 1)) Bad λ n.
+    (on_value (decimal_of (2 ^ 64 - 1) (part_of colon s 0)) Bad λ v.
+    on_value (decimal_of 255 (part_of colon s 1)) Bad λ n.
     Good (Const v n))
     Bad
 

@@ -11,7 +11,7 @@ use lib.Dec.{eqb, leb, ltb}
 use lib.ListN.{length, length-append}
 use lib.Seq.{append_snoc}
 use Rattle.pcode.specs.Var.{pick}
-use Rattle.fields.specs.Decimals.{step_of, onValue, digits_of, decimal_of}
+use Rattle.fields.specs.Decimals.{step_of, on_value, digits_of, decimal_of}
 use Rattle.fields.specs.Parts.{count_of}
 use Rattle.fields.specs.declared.decimal.Parsed.{Parsed}
 use Rattle.fields.specs.declared.decimal.Parsed.TheVariants.{Bad, Value}
@@ -88,12 +88,12 @@ digits_more k v h = rw (le-ltb v 10 h)
 -- digits put after digits
 digits_then : (limit : ℕ) (xs ys : List ℕ) (u w : ℕ) → digits_of limit u xs ≡ Value w → digits_of limit u (xs ++ ys) ≡ digits_of limit w ys
 unfolding digits_of
-digits_then limit [] ys u w e = ap (λ (p : Parsed). onValue p Bad (λ (v : ℕ). digits_of limit v ys)) e
+digits_then limit [] ys u w e = ap (λ (p : Parsed). on_value p Bad (λ (v : ℕ). digits_of limit v ys)) e
 digits_then limit (x ∷ xs) ys u w e₀ = go (step_of limit u x) (digits_then limit xs ys) e₀
   where
     go : (p : Parsed) → ((u w : ℕ) → digits_of limit u xs ≡ Value w → digits_of limit u (xs ++ ys) ≡ digits_of limit w ys) →
-        onValue p Bad (λ v. digits_of limit v xs) ≡ Value w → onValue p Bad (λ v. digits_of limit v (xs ++ ys)) ≡ digits_of limit w ys
-    go Bad f e = ap (λ (p : Parsed). onValue p Bad (λ (v : ℕ). digits_of limit v ys)) e
+        on_value p Bad (λ v. digits_of limit v xs) ≡ Value w → on_value p Bad (λ v. digits_of limit v (xs ++ ys)) ≡ digits_of limit w ys
+    go Bad f e = ap (λ (p : Parsed). on_value p Bad (λ (v : ℕ). digits_of limit v ys)) e
     go (Value v) f e = f v w e
 
 step_value : (limit u d : ℕ) → d < 10 → 10 * u + d ≤ limit → step_of limit u (48 + d) ≡ Value (10 * u + d)
@@ -212,7 +212,7 @@ follow limit (b ∷ s) k u v n a h g e₀ = go (step_of limit u b) refl (follow 
   where
     go : (p : Parsed) → step_of limit u b ≡ p → ((u v n : ℕ) → n ≡ suc k + length s → Enough (suc k) u → 0 < u → digits_of limit u s ≡ Value v →
         (digits_text (suc k) u ++ s ≡ digits_text n v) × Enough n v) →
-        onValue p Bad (λ w. digits_of limit w s) ≡ Value v → (digits_text k u ++ b ∷ s ≡ digits_text n v) × Enough n v
+        on_value p Bad (λ w. digits_of limit w s) ≡ Value v → (digits_text k u ++ b ∷ s ≡ digits_text n v) × Enough n v
     go Bad q f e = absurd (clash v e)
     go (Value w) q f e =
         let t = step_read limit u b w q in
@@ -229,7 +229,7 @@ digits_back : (limit b : ℕ) (s : List ℕ) (v : ℕ) → (b ≡ 48 → ⊥) �
 unfolding digits_of
 digits_back limit b s v h = go (step_of limit 0 b) refl
   where
-    go : (p : Parsed) → step_of limit 0 b ≡ p → onValue p Bad (λ w. digits_of limit w s) ≡ Value v → (b ∷ s ≡ digits_text (1 + length s) v) × Enough (1 + length s) v
+    go : (p : Parsed) → step_of limit 0 b ≡ p → on_value p Bad (λ w. digits_of limit w s) ≡ Value v → (b ∷ s ≡ digits_text (1 + length s) v) × Enough (1 + length s) v
     go Bad q e = absurd (clash v e)
     go (Value w) q e =
         let t = step_read limit 0 b w q in
@@ -248,7 +248,7 @@ digits_alone : (limit k b v : ℕ) → digits_of limit 0 (b ∷ []) ≡ Value v 
 unfolding digits_of
 digits_alone limit k b v = go (step_of limit 0 b) refl
   where
-    go : (p : Parsed) → step_of limit 0 b ≡ p → onValue p Bad Value ≡ Value v → b ∷ [] ≡ digits_text (suc k) v
+    go : (p : Parsed) → step_of limit 0 b ≡ p → on_value p Bad Value ≡ Value v → b ∷ [] ≡ digits_text (suc k) v
     go Bad q e = absurd (clash v e)
     go (Value w) q e =
         let t = step_read limit 0 b w q in

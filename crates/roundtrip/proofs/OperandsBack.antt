@@ -15,7 +15,7 @@ use Rattle.pcode.specs.declared.var.Operand.{Operand}
 use Rattle.pcode.specs.declared.var.Operand.TheVariants.{None, Const, Var}
 use Rattle.pcode.specs.declared.var.Output.{Output}
 use Rattle.fields.specs.Parts.{part_of, count_of}
-use Rattle.fields.specs.Decimals.{decimal_of, onValue}
+use Rattle.fields.specs.Decimals.{decimal_of, on_value}
 use Rattle.fields.specs.declared.decimal.Parsed.TheVariants.{Value}
 use Rattle.fields.proofs.Decimals.{bounded}
 use Rattle.record.specs.Operands.{id_of, var_of, const_of, operand_of, output_of, as_var, as_output}
@@ -29,7 +29,7 @@ use Rattle.roundtrip.specs.Fits.{FitsId, FitsOperand}
 use Rattle.roundtrip.proofs.Parts.{parted, parts_joined}
 use Rattle.roundtrip.proofs.Digits.{enough, decimal_back}
 use Rattle.roundtrip.proofs.Operands.{not_none}
-use Rattle.roundtrip.proofs.Inverse.{passed, not_bad, on_value, on_id}
+use Rattle.roundtrip.proofs.Inverse.{passed, not_bad, on_value_lem, on_id_lem}
 
 -- decimals in the rooms that the text form gives them
 pub five_back : (limit : ℕ) (s : List ℕ) (v : ℕ) → limit < 100000 → decimal_of limit s ≡ Value v → s ≡ digits_text 5 v
@@ -60,14 +60,14 @@ plain w = refl
 
 module _ (x : ℕ) (t : List ℕ) (v : VarId) where
   abbrev negative : ReadId
-  negative = onValue (decimal_of 32768 t) ReadId.Bad (λ w. pick (eqb w 0) ReadId.Bad (ReadId.Good (record { 0 = negsuc (w - 1) })))
+  negative = on_value (decimal_of 32768 t) ReadId.Bad (λ w. pick (eqb w 0) ReadId.Bad (ReadId.Good (record { 0 = negsuc (w - 1) })))
 
   abbrev positive : ReadId
-  positive = onValue (decimal_of 32767 (x ∷ t)) ReadId.Bad (λ w. ReadId.Good (record { 0 = pos w }))
+  positive = on_value (decimal_of 32767 (x ∷ t)) ReadId.Bad (λ w. ReadId.Good (record { 0 = pos w }))
 
   id_minus_back : negative ≡ ReadId.Good v → (45 ∷ t ≡ id_text v.0) × FitsId v.0
   id_minus_back e =
-      let p = on_value ReadId.Bad (ReadId.Good v) (id_clash v) (decimal_of 32768 t) (λ w. pick (eqb w 0) ReadId.Bad (ReadId.Good (record { 0 = negsuc (w - 1) }))) e in
+      let p = on_value_lem ReadId.Bad (ReadId.Good v) (id_clash v) (decimal_of 32768 t) (λ w. pick (eqb w 0) ReadId.Bad (ReadId.Good (record { 0 = negsuc (w - 1) }))) e in
       let w = p.0 in
       let q = not_bad ReadId.Bad (ReadId.Good v) (id_clash v) (eqb w 0) (ReadId.Good (record { 0 = negsuc (w - 1) })) p.2 in
       let r : record { 0 = negsuc (w - 1) } ≡ v = cc in
@@ -78,7 +78,7 @@ module _ (x : ℕ) (t : List ℕ) (v : VarId) where
 
   id_plain_back : positive ≡ ReadId.Good v → (x ∷ t ≡ id_text v.0) × FitsId v.0
   id_plain_back e =
-      let p = on_value ReadId.Bad (ReadId.Good v) (id_clash v) (decimal_of 32767 (x ∷ t)) (λ w. ReadId.Good (record { 0 = pos w })) e in
+      let p = on_value_lem ReadId.Bad (ReadId.Good v) (id_clash v) (decimal_of 32767 (x ∷ t)) (λ w. ReadId.Good (record { 0 = pos w })) e in
       let w = p.0 in
       let r : record { 0 = pos w } ≡ v = cc in (
         five_back 32767 (x ∷ t) w (omega arith) p.1 ∙ plain w ∙ ap (λ (i : VarId). id_text i.0) r,
@@ -115,9 +115,9 @@ var_back s v e =
     let bad = ReadVar.Bad in
     let good = ReadVar.Good v in
     let a = passed bad good (var_clash v) (eqb (count_of 58 s) 2) _ e in
-    let b = on_id bad good (var_clash v) (id_of (part_of 58 s 0)) _ a.1 in
-    let c = on_value bad good (var_clash v) (decimal_of 255 (part_of 58 s 1)) _ b.2 in
-    let d = on_value bad good (var_clash v) (decimal_of 255 (part_of 58 s 2)) _ c.2 in
+    let b = on_id_lem bad good (var_clash v) (id_of (part_of 58 s 0)) _ a.1 in
+    let c = on_value_lem bad good (var_clash v) (decimal_of 255 (part_of 58 s 1)) _ b.2 in
+    let d = on_value_lem bad good (var_clash v) (decimal_of 255 (part_of 58 s 2)) _ c.2 in
     let r : record { id = b.0; offset = c.0; size = d.0 } ≡ v = cc in
     subst (λ (x : VarNode). (118 ∷ s ≡ var_text x) × FitsId x.id.0) r
     (var_parts s b.0 c.0 d.0 (eqb-true _ _ a.0) b.1 c.1 d.1)
@@ -135,8 +135,8 @@ const_back : (s : List ℕ) (a : Operand) → const_of s ≡ Good a → (99 ∷ 
 unfolding const_of
 const_back s a e =
     let t = passed Bad (Good a) (operand_clash a) (eqb (count_of 58 s) 1) _ e in
-    let b = on_value Bad (Good a) (operand_clash a) (decimal_of (2 ^ 64 - 1) (part_of 58 s 0)) _ t.1 in
-    let c = on_value Bad (Good a) (operand_clash a) (decimal_of 255 (part_of 58 s 1)) _ b.2 in
+    let b = on_value_lem Bad (Good a) (operand_clash a) (decimal_of (2 ^ 64 - 1) (part_of 58 s 0)) _ t.1 in
+    let c = on_value_lem Bad (Good a) (operand_clash a) (decimal_of 255 (part_of 58 s 1)) _ b.2 in
     let r : Const b.0 c.0 ≡ a = cc in
     subst (λ (x : Operand). (99 ∷ s ≡ operand_text x) × FitsOperand x) r (const_parts s b.0 c.0 (eqb-true _ _ t.0) b.1 c.1)
 

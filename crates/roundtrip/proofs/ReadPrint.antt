@@ -135,10 +135,10 @@ module _ (limit line : ℕ) (r : Read) (l : List ℕ) (small : limit ≤ 129) (r
                 ∙ ap (λ (x : List ℕ). x ++ (l ++ 10 ∷ [])) (sym a);
           }
 
-  add-line : (d : Record) → record_of l ≡ d → (accepted limit line r d).answer ≡ Ok → Added (accepted limit line r d)
-  add-line Bad q e = absurd (refused (BadLine line) e)
-  add-line (Mark v) q e = let b = mark_back l v q in add_mark v b.0 b.1 e
-  add-line (Statement s) q e = let b = line_back l s q in add_stmt s b.0 b.1 e
+  add_line : (d : Record) → record_of l ≡ d → (accepted limit line r d).answer ≡ Ok → Added (accepted limit line r d)
+  add_line Bad q e = absurd (refused (BadLine line) e)
+  add_line (Mark v) q e = let b = mark_back l v q in add_mark v b.0 b.1 e
+  add_line (Statement s) q e = let b = line_back l s q in add_stmt s b.0 b.1 e
 
 -- reading that ends well went well at each line
 module _ (x next : Read) where
@@ -163,7 +163,7 @@ read_text limit small [] line r room e =
 read_text limit small (l ∷ ls) line r room e =
     let x = accepted limit line r (record_of l) in
     let w = read_cons limit line r l ls e in
-    let d = add-line limit line r l small room (record_of l) refl w.0 in
+    let d = add_line limit line r l small room (record_of l) refl w.0 in
     let p = read_text limit small ls (line + 1) x d.room' (sym (ap (λ (y : Read). y.answer) w.1) ∙ e) in (
       subst Room (sym w.1) p.0,
       ap text_of w.1 ∙ p.1

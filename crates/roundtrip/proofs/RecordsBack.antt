@@ -19,7 +19,7 @@ use Rattle.pcode.specs.declared.var.Operand.{Operand}
 use Rattle.pcode.specs.declared.var.Output.{Output}
 use Rattle.pcode.specs.declared.block.Stmt.{Stmt}
 use Rattle.fields.specs.Parts.{part_of, count_of}
-use Rattle.fields.specs.Decimals.{decimal_of, onValue}
+use Rattle.fields.specs.Decimals.{decimal_of, on_value}
 use Rattle.fields.proofs.Decimals.{bounded}
 use Rattle.record.specs.Names.{code_named}
 use Rattle.record.specs.Operands.{id_of, operand_of, output_of}
@@ -36,7 +36,7 @@ use Rattle.roundtrip.proofs.Parts.{parted, parts_joined}
 use Rattle.roundtrip.proofs.Names.{bytes_same, code_back}
 use Rattle.roundtrip.proofs.Ops.{code_op, number_none, number_some}
 use Rattle.roundtrip.proofs.OperandsBack.{five_back, id_back, operand_back, output_back}
-use Rattle.roundtrip.proofs.Inverse.{passed, not_bad, on_value, on_id, on_number, on_output, on_operand_lem}
+use Rattle.roundtrip.proofs.Inverse.{passed, not_bad, on_value_lem, on_id_lem, on_number_lem, on_output_lem, on_operand_lem}
 use Rattle.roundtrip.proofs.Records.{line_of}
 use Rattle.roundtrip.proofs.Marks.{mark_line}
 
@@ -60,10 +60,10 @@ number_back k n s h = go (takes_number k) refl
     told m q p = subst (λ (x : Number). (s ≡ number_text x) × FitsNumber x) (sym q) p
 
     go : (t : Bool) → takes_number k ≡ t →
-        pick t (onValue (decimal_of 65535 s) ReadNumber.Bad ReadNumber.Good) (pick (eq_bytes s (bytes_of "-")) (ReadNumber.Good 0) ReadNumber.Bad) ≡ ReadNumber.Good n →
+        pick t (on_value (decimal_of 65535 s) ReadNumber.Bad ReadNumber.Good) (pick (eq_bytes s (bytes_of "-")) (ReadNumber.Good 0) ReadNumber.Bad) ≡ ReadNumber.Good n →
         (s ≡ number_text (number_of (op_of k n))) × FitsNumber (number_of (op_of k n))
     go true q e =
-        let p = on_value ReadNumber.Bad (ReadNumber.Good n) (number_clash n) (decimal_of 65535 s) ReadNumber.Good e in
+        let p = on_value_lem ReadNumber.Bad (ReadNumber.Good n) (number_clash n) (decimal_of 65535 s) ReadNumber.Good e in
         let r : p.0 ≡ n = cc in
         told (Numbered n) (number_some k n h q)
         (five_back 65535 s p.0 (omega arith) p.1 ∙ ap (digits_text 5) r, omega (arith, bounded 65535 s p.0 p.1, r))
@@ -103,8 +103,8 @@ module _ (line : List ℕ) where
     unfolding statement_of
     statement_fields e =
         let t = passed Bad r no (ltb code 72) _ e in
-        let n = on_number Bad r no (number_in code (part_of 9 line 1)) _ t.1 in
-        let o = on_output Bad r no (output_of (part_of 9 line 2)) _ n.2 in
+        let n = on_number_lem Bad r no (number_in code (part_of 9 line 1)) _ t.1 in
+        let o = on_output_lem Bad r no (output_of (part_of 9 line 2)) _ n.2 in
         let a = on_operand_lem Bad r no (operand_of (part_of 9 line 3)) _ o.2 in
         let b = on_operand_lem Bad r no (operand_of (part_of 9 line 4)) _ a.2 in
         (record { n = n.0; o = o.0; a = a.0; b = b.0; below = ltb-true code 72 t.0; number = n.1; output = o.1; first = a.1; second = b.1 }, b.2)
@@ -113,7 +113,7 @@ module _ (line : List ℕ) where
     unfolding mark_of
     mark_fields e =
         let t = passed Bad r no (eq_bytes (part_of 9 line 0) (bytes_of "temporary")) _ e in
-        let i = on_id Bad r no (id_of (part_of 9 line 1)) _ t.1 in
+        let i = on_id_lem Bad r no (id_of (part_of 9 line 1)) _ t.1 in
         let g = passed Bad r no (less_id (record { 0 = pos 0 }) i.0) (Mark i.0) i.2 in
         (record { v = i.0; named = t.0; id = i.1; above = g.0 }, g.1)
 

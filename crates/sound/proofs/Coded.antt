@@ -14,7 +14,7 @@ use Rattle.bit.specs.declared.Bit.TheVariants.{Zero, One, Unknown, Expr as Sym}
 use Rattle.bit.proofs.Codes.{Small, round, small_bit}
 use Rattle.bit_vec.specs.Lists.{bits, codes, zip_bits, logic_b, ripple_bits}
 use Rattle.bit_vec.specs.Moves.{fit, last_of, up, down, digits, truth}
-use Rattle.bit_vec.specs.Known.{const_of, least, shift_by, shift_of, count_ones, leading_zeros, trailing_zeros, left_of, rightOf}
+use Rattle.bit_vec.specs.Known.{const_of, least, shift_by, shift_of, count_ones, leading_zeros, trailing_zeros, left_of, right_of}
 use Rattle.bit_vec.specs.declared.known.Constant.{Constant}
 use Rattle.bit_vec.specs.declared.known.Constant.TheVariants.{Known, Open}
 use Rattle.bit_vec.specs.declared.logic.Logic.TheVariants as Logic
@@ -162,9 +162,9 @@ left_back a sh =
     map_shift bit_of (up (code_of Zero)) (up (bit_of (code_of Zero))) (code_of Zero) (code_of Unknown) a sh (map_up bit_of (code_of Zero))
     ∙ ap₂ (λ (z u : Bit). left_of z u (bits a) sh) zero_back unknown_back
 
-right_back : (z : ℕ) (b : Bit) (a : List ℕ) (sh : List Bit) → bit_of z ≡ b → bits (rightOf z (code_of Unknown) a sh) ≡ rightOf b Unknown (bits a) sh
+right_back : (z : ℕ) (b : Bit) (a : List ℕ) (sh : List Bit) → bit_of z ≡ b → bits (right_of z (code_of Unknown) a sh) ≡ right_of b Unknown (bits a) sh
 right_back z b a sh e =
-    map_shift bit_of (down z) (down (bit_of z)) z (code_of Unknown) a sh (map_down bit_of z) ∙ ap₂ (λ (z u : Bit). rightOf z u (bits a) sh) e unknown_back
+    map_shift bit_of (down z) (down (bit_of z)) z (code_of Unknown) a sh (map_down bit_of z) ∙ ap₂ (λ (z u : Bit). right_of z u (bits a) sh) e unknown_back
 
 ones_back : (c : Constant) (k n : ℕ) (b : List ℕ) → bits (mul_by_ones coded c k b n) ≡ mul_by_ones plain c k (bits b) n
 ones_back (Known zero) k n b = filled_back n Zero zero_back
@@ -270,10 +270,10 @@ sound_coded_shift : (k : ShiftOp) → SoundCoded (Shift k)
 sound_coded_shift IntLeft ρ a b old vs ws f hx hy =
     by_reading (Shift IntLeft) refl ρ a b old vs ws f hx hy (left_back a (bits b) ∙ ap (left_of Zero Unknown (bits a)) (sym (map-id (bits b))))
 sound_coded_shift IntRight ρ a b old vs ws f hx hy =
-    by_reading (Shift IntRight) refl ρ a b old vs ws f hx hy (right_back (code_of Zero) Zero a (bits b) zero_back ∙ ap (rightOf Zero Unknown (bits a)) (sym (map-id (bits b))))
+    by_reading (Shift IntRight) refl ρ a b old vs ws f hx hy (right_back (code_of Zero) Zero a (bits b) zero_back ∙ ap (right_of Zero Unknown (bits a)) (sym (map-id (bits b))))
 sound_coded_shift IntSignedRight ρ a b old vs ws f hx hy =
     by_reading (Shift IntSignedRight) refl ρ a b old vs ws f hx hy
-    (right_back (last_of (code_of Zero) a) (last_of Zero (bits a)) a (bits b) (sign_bit a) ∙ ap (rightOf (last_of Zero (bits a)) Unknown (bits a)) (sym (map-id (bits b))))
+    (right_back (last_of (code_of Zero) a) (last_of Zero (bits a)) a (bits b) (sign_bit a) ∙ ap (right_of (last_of Zero (bits a)) Unknown (bits a)) (sym (map-id (bits b))))
 
 pub sound_coded : (op : Op) → computes op ≡ true → SoundCoded op
 sound_coded (Subpiece k) e ρ a b old vs ws f hx hy =

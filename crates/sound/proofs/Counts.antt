@@ -18,7 +18,7 @@ use Rattle.bit_vec.proofs.Lengths.{length_up}
 use Rattle.eval.specs.Held.{plain}
 use Rattle.eval.specs.Eval.{number_or, mul_by_ones, mul_by}
 use Rattle.eval.proofs.Products.{trailing_within}
-use Rattle.meaning.specs.Meaning.{count_ones as onesOf, leading_zeros as zerosOf}
+use Rattle.meaning.specs.Meaning.{count_ones as ones_of, leading_zeros as zeros_of}
 use Rattle.sound.specs.Sound.{Valuation, Agree, Agrees, num, low}
 use Rattle.sound.proofs.Numbers.{num_lt, num_head, num_tail, num_append, length_low, low_num, low_mod}
 use Rattle.sound.proofs.Lists.{same_length, zeros, unknowns, append, sound_digits}
@@ -95,13 +95,13 @@ module _ (ρ : Valuation) where
   count_cons Unknown v c k h i = tt
   count_cons (Sym e) v c k h i = tt
 
-  pub count_is : (xs : List Bit) (vs : List Bool) → Agrees ρ xs vs → ConstIs (count_ones xs) (onesOf (length vs) (num vs))
-  unfolding onesOf
+  pub count_is : (xs : List Bit) (vs : List Bool) → Agrees ρ xs vs → ConstIs (count_ones xs) (ones_of (length vs) (num vs))
+  unfolding ones_of
   count_is [] [] h = refl
   count_is [] (v ∷ vs) h = absurd h
   count_is (x ∷ xs) [] h = absurd h
   count_is (x ∷ xs) (v ∷ vs) h =
-      rw (num_head v (num vs), num_tail v (num vs)) (count_cons x v (count_ones xs) (onesOf (length vs) (num vs)) h.0 (count_is xs vs h.1))
+      rw (num_head v (num vs), num_tail v (num vs)) (count_cons x v (count_ones xs) (ones_of (length vs) (num vs)) h.0 (count_is xs vs h.1))
 
   reversed : (xs : List Bit) (vs : List Bool) → Agrees ρ xs vs → Agrees ρ (reverse xs) (reverse vs)
   reversed [] [] h = tt
@@ -110,22 +110,22 @@ module _ (ρ : Valuation) where
   reversed (x ∷ xs) (v ∷ vs) h = rw (reverse-cons x xs, reverse-cons v vs) (append ρ (reverse xs) (x ∷ []) (reverse vs) (v ∷ []) (reversed xs vs h.1) (h.0, tt))
 
   -- the highest bit v above n bits whose number is r
-  lead_cons : (x : Bit) (v : Bool) (c : Constant) (n r : ℕ) → r < 2 ^ n → Agree ρ x v → ConstIs c (zerosOf n r) → ConstIs (lead_k x c) (zerosOf (suc n) (r + 2 ^ n * (one_if v + 0)))
-  unfolding zerosOf
+  lead_cons : (x : Bit) (v : Bool) (c : Constant) (n r : ℕ) → r < 2 ^ n → Agree ρ x v → ConstIs c (zeros_of n r) → ConstIs (lead_k x c) (zeros_of (suc n) (r + 2 ^ n * (one_if v + 0)))
+  unfolding zeros_of
   lead_cons Zero v c n r l h i =
       let q : r + 2 ^ n * (0 + 0) ≡ r = ap (λ (m : ℕ). r + m) (mul-zero (2 ^ n)) ∙ add-zero r in
-      rw (h, q, lt-leb (2 ^ n) r l) (count_more c (zerosOf n r) i)
+      rw (h, q, lt-leb (2 ^ n) r l) (count_more c (zeros_of n r) i)
   lead_cons One v c n r l h i =
       let q : 2 ^ n * (1 + 0) ≡ 2 ^ n = mul-one (2 ^ n) in
       rw (h, q, le-leb (2 ^ n) (r + 2 ^ n) (omega arith))
   lead_cons Unknown v c n r l h i = tt
   lead_cons (Sym e) v c n r l h i = tt
 
-  lead_none : ◌≡◌ {A = ℕ} 0 (zerosOf 0 0)
-  unfolding zerosOf
+  lead_none : ◌≡◌ {A = ℕ} 0 (zeros_of 0 0)
+  unfolding zeros_of
   lead_none = refl
 
-  lead_from : (ys : List Bit) (us : List Bool) → Agrees ρ ys us → ConstIs (zeros_first ys) (zerosOf (length us) (num (reverse us)))
+  lead_from : (ys : List Bit) (us : List Bool) → Agrees ρ ys us → ConstIs (zeros_first ys) (zeros_of (length us) (num (reverse us)))
   lead_from [] [] h = lead_none
   lead_from [] (u ∷ us) h = absurd h
   lead_from (y ∷ ys) [] h = absurd h
@@ -135,5 +135,5 @@ module _ (ρ : Valuation) where
       rw (reverse-cons u us, num_append (reverse us) (u ∷ []), n)
       (lead_cons y u (zeros_first ys) (length us) (num (reverse us)) l h.0 (lead_from ys us h.1))
 
-  pub lead_is : (xs : List Bit) (vs : List Bool) → Agrees ρ xs vs → ConstIs (leading_zeros xs) (zerosOf (length vs) (num vs))
+  pub lead_is : (xs : List Bit) (vs : List Bool) → Agrees ρ xs vs → ConstIs (leading_zeros xs) (zeros_of (length vs) (num vs))
   lead_is xs vs h = rw (length-reverse vs, reverse-reverse vs) at (lead_from (reverse xs) (reverse vs) (reversed xs vs h))

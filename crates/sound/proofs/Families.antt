@@ -21,7 +21,7 @@ use Rattle.eval.specs.Held.{plain, read_all, truth_of}
 use Rattle.eval.specs.Eval.{subpiece_of, one_of, two_of, shift_bits, compare_b, bool_b}
 use Rattle.eval.specs.Sizes.{fits_bits}
 use Rattle.eval.proofs.Laws.{all_same}
-use Rattle.meaning.specs.Meaning.{one_if, odd, sign, means_one, means_two, means_shift, means_compare, means_bool, meaning, count_ones as onesOf, leading_zeros as zerosOf}
+use Rattle.meaning.specs.Meaning.{one_if, odd, sign, means_one, means_two, means_shift, means_compare, means_bool, meaning, count_ones as ones_of, leading_zeros as zeros_of}
 use Rattle.pcode.specs.Var.{pick}
 use Rattle.pcode.specs.Rules.{sizes_one}
 use Rattle.pcode.specs.declared.op.OneOp.{OneOp}
@@ -85,8 +85,8 @@ module _ (ρ : Valuation) (xs : List Bit) (vs : List Bool) (hx : Agrees ρ xs vs
   sound_one SignExtend b o f = sound_extend o (leb-true (length vs) o f)
   sound_one IntNot b o f = rw (map-id xs, map-id (map not_b xs), ← eqb-true (length vs) o f) (sound_flip ρ xs vs hx)
   sound_one IntNegate b o f = rw (map-id xs, map-id (ripple_bits Sub (replicate o Zero) xs), ← eqb-true (length vs) o f) sound_negate
-  sound_one IntCountOnes b o f = rw (map-id xs) (sound_number ρ (count_ones xs) (onesOf (length vs) (num vs)) o (count_is ρ xs vs hx))
-  sound_one IntCountLeadingZeroes b o f = rw (map-id xs) (sound_number ρ (leading_zeros xs) (zerosOf (length vs) (num vs)) o (lead_is ρ xs vs hx))
+  sound_one IntCountOnes b o f = rw (map-id xs) (sound_number ρ (count_ones xs) (ones_of (length vs) (num vs)) o (count_is ρ xs vs hx))
+  sound_one IntCountLeadingZeroes b o f = rw (map-id xs) (sound_number ρ (leading_zeros xs) (zeros_of (length vs) (num vs)) o (lead_is ρ xs vs hx))
   sound_one BoolNot b o f = sound_bool (not_b (get_or xs 0 Zero)) (not (odd (num vs))) o (sound_not ρ (get_or xs 0 Zero) (odd (num vs)) lowest)
 
 -- two operands

@@ -15,7 +15,7 @@ use Rattle.bit.specs.declared.Bit.{Bit}
 use Rattle.bit.specs.declared.Bit.TheVariants.{Zero, One, Unknown, Expr as Sym}
 use Rattle.bit_vec.specs.declared.known.Constant.{Constant}
 use Rattle.bit_vec.specs.declared.known.Constant.TheVariants.{Known, Open}
-use Rattle.bit_vec.specs.Known.{cons_k, const_from, const_of, one_of, least, shift_by, shift_of, left_of, rightOf}
+use Rattle.bit_vec.specs.Known.{cons_k, const_from, const_of, one_of, least, shift_by, shift_of, left_of, right_of}
 use Rattle.bit_vec.specs.Moves.{up, down, last_of}
 use Rattle.bit_vec.proofs.Shifted.{const_least}
 use Rattle.bit_vec.proofs.Moved.{fit_cut}
@@ -237,20 +237,20 @@ module _ (ρ : Valuation) (xs sh : List Bit) (vs ws : List Bool) (hx : Agrees ρ
       (sound_shift ρ (up Zero) (up false) Zero false refl (up_mover ρ) xs sh vs ws hx hs)
 
   -- down, with u coming in, where k is its number
-  right : (z : Bit) (u : Bool) → Agree ρ z u → (k : ℕ) → k ≡ num (shift_v (down u) u (num ws) vs) → Agrees ρ (rightOf z Unknown xs sh) (low (length vs) k)
+  right : (z : Bit) (u : Bool) → Agree ρ z u → (k : ℕ) → k ≡ num (shift_v (down u) u (num ws) vs) → Agrees ρ (right_of z Unknown xs sh) (low (length vs) k)
   right z u h k e =
       rw (low_num (length vs) k (shift_v (down u) u (num ws) vs) (length_shift (down u) u (num ws) vs (length_down u (num ws) vs)) e)
       (sound_shift ρ (down z) (down u) z u h (down_mover ρ z u h) xs sh vs ws hx hs)
 
-  pub sound_right : Agrees ρ (rightOf Zero Unknown xs sh) (low (length vs) (shift_right (length vs) (num vs) (num ws)))
+  pub sound_right : Agrees ρ (right_of Zero Unknown xs sh) (low (length vs) (shift_right (length vs) (num vs) (num ws)))
   sound_right = right Zero false refl (shift_right (length vs) (num vs) (num ws)) (num_right (num ws) vs)
 
-  pub sound_signed_right : Agrees ρ (rightOf (last_of Zero xs) Unknown xs sh)
+  pub sound_signed_right : Agrees ρ (right_of (last_of Zero xs) Unknown xs sh)
       (low (length vs) (choose (sign (length vs) (num vs)) (2 ^ length vs - 1 - shift_right (length vs) (2 ^ length vs - 1 - num vs) (num ws)) (shift_right (length vs) (num vs) (num ws))))
   sound_signed_right = go (sign (length vs) (num vs)) (rw (sign_last vs) (last ρ Zero false xs vs refl hx))
     where
       go : (u : Bool) → Agree ρ (last_of Zero xs) u
-          → Agrees ρ (rightOf (last_of Zero xs) Unknown xs sh)
+          → Agrees ρ (right_of (last_of Zero xs) Unknown xs sh)
           (low (length vs) (choose u (2 ^ length vs - 1 - shift_right (length vs) (2 ^ length vs - 1 - num vs) (num ws)) (shift_right (length vs) (num vs) (num ws))))
       go true h = right (last_of Zero xs) true h (2 ^ length vs - 1 - shift_right (length vs) (2 ^ length vs - 1 - num vs) (num ws)) (num_signed (num ws) vs)
       go false h = right (last_of Zero xs) false h (shift_right (length vs) (num vs) (num ws)) (num_right (num ws) vs)

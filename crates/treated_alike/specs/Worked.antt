@@ -14,7 +14,7 @@ use Rattle.pcode.specs.declared.op.TwoOp.TheVariants.{IntAdd, IntXor}
 use Rattle.pcode.specs.declared.op.Op.TheVariants as Op
 use Rattle.pcode.specs.declared.block.Stmt.{Stmt}
 use Rattle.vars.specs.Vars.{join_id, join_ids, vars_from, vars_of, row_of, over_from, no_ids}
-use Rattle.fields.specs.Decimals.{step_of as digitStep, digits_of, decimal_of}
+use Rattle.fields.specs.Decimals.{step_of as digit_step, digits_of, decimal_of}
 use Rattle.fields.specs.Parts.{place_of, rest_of, count_of}
 use Rattle.record.specs.Names.{first_named, code_named}
 use Rattle.record.specs.Operands.{id_of, var_of, const_of, operand_of}
@@ -30,7 +30,7 @@ use Rattle.const_eval.specs.Map.{place_at, entry_at}
 use Rattle.settle.specs.Settle.{named}
 use Rattle.widen.specs.Widen.{zeros_above, widened_of}
 use Rattle.const_step.specs.Labels.{has_target}
-use Rattle.const_prop.specs.Pass.{all_ids, least_from, step_of as passStep, walk_from, no_store, no_use, no_map}
+use Rattle.const_prop.specs.Pass.{all_ids, least_from, step_of as pass_step, walk_from, no_store, no_use, no_map}
 use Rattle.live_bytes.specs.Bytes.{inside, any_below}
 use Rattle.dead_store.specs.Stays.{block_of, read_first, overwritten, read_next, rewritten, read_later, judge, dead_of, without}
 use Rattle.machine.specs.Class.{first_outside}
@@ -116,12 +116,12 @@ treated =
 
 -- the file is read
 pub reads : read_of 64 file ≡ read_with Ok (block_of given) no_marks
-unfolding read_of read_lines lines_of empty_read accepted_stmt record_of statement_of mark_of number_in operand_of const_of var_of id_of code_named first_named name_of op_of count_of rest_of place_of decimal_of digits_of digitStep blank_stmts
+unfolding read_of read_lines lines_of empty_read accepted_stmt record_of statement_of mark_of number_in operand_of const_of var_of id_of code_named first_named name_of op_of count_of rest_of place_of decimal_of digits_of digit_step blank_stmts
 reads = refl
 
 -- both passes accept its block and leave the other
 pub treats : both_of (block_of given) no_marks ≡ record { answer = Ok; block = block_of treated }
-unfolding check_of checks_from stmt_check good_sizes met_needs good_parts good_node good_size variables labels_from has_label over_from join_ids join_id has_id eq_z vars_of vars_from row_of no_ids blank_stmts not_b and_b or_b xor_b code_of bit_of fresh_row place_at entry_at named zeros_above widened_of has_target all_ids least_from passStep walk_from no_store no_use no_map read_first overwritten read_next rewritten read_later judge dead_of without inside any_below
+unfolding check_of checks_from stmt_check good_sizes met_needs good_parts good_node good_size variables labels_from has_label over_from join_ids join_id has_id eq_z vars_of vars_from row_of no_ids blank_stmts not_b and_b or_b xor_b code_of bit_of fresh_row place_at entry_at named zeros_above widened_of has_target all_ids least_from pass_step walk_from no_store no_use no_map read_first overwritten read_next rewritten read_later judge dead_of without inside any_below
 treats = refl
 
 -- the text of what is left

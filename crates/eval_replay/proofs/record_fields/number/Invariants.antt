@@ -1,6 +1,6 @@
 use Prim.Native.Nat.{◌≤◌, ◌-◌, ◌<◌}
 use lib.ListN.{length}
-use Rattle.eval_replay.proofs.fields.number.Given as goal
+use Rattle.eval_replay.proofs.record_fields.number.Given as goal
 
 abbrev pub invariant-loop-i : goal.invariant-loop-i
 invariant-loop-i l = (l.i ≤ length l.s) × (l.n < 10000000000000000)
