@@ -77,17 +77,17 @@ module _ (ids : List VarId) (answers : List ℕ) (block : List Stmt) (i : ℕ) (
   one_passed l = rw (add-one i, drop-cons block i blank_stmt h)
 
 -- a step by its parts
-told : (ids : List VarId) (answers : List ℕ) (rows after : List (List ℕ)) (loads taken : ℕ) (flow : Flow) (s : Stmt) (act : Act) (a b : ℕ)
-    → act ≡ act_of s.op → a ≡ value_in ids rows s.first → b ≡ value_in ids rows s.second → after ≡ rows_after ids answers loads rows s act → taken ≡ loads_after loads act → flow ≡ flow_of act a
-    → step_of ids answers (machine rows loads) s ≡ record { events = events_of rows act a b; machine = machine after taken; flow = flow }
+told : (ids : List VarId) (answers : List ℕ) (rows after : List (List ℕ)) (loads taken : ℕ) (onward : Flow) (s : Stmt) (act : Act) (a b : ℕ)
+    → act ≡ act_of s.op → a ≡ value_in ids rows s.first → b ≡ value_in ids rows s.second → after ≡ rows_after ids answers loads rows s act → taken ≡ loads_after loads act → onward ≡ flow_of act a
+    → step_of ids answers (machine rows loads) s ≡ record { events = events_of rows act a b; machine = machine after taken; flow = onward }
 unfolding step_of
-told ids answers rows after loads taken flow s act a b ec ea eb er el en = rw (er, el, en, ea, eb, ec)
+told ids answers rows after loads taken onward s act a b ec ea eb er el en = rw (er, el, en, ea, eb, ec)
 
 module _ (g : Given) (i : ℕ) (h : i < length g.block) where
   -- a jump passes over a statement, or ends at it
-  pub going_past : {flow flow : Flow} {rows : List (List ℕ)} {loads at : ℕ} {new : List ℕ} (s : Stmt) (l : Label) → s ≡ get_or g.block i blank_stmt → flow ≡ Jump l → flow ≡ arrived l s.op
-      → Going g i flow rows loads new at → Going g (i + 1) flow rows loads new at
-  going_past {flow} {flow} {rows} {loads} {at} {new} s l es ef en o =
+  pub going_past : {flow onward : Flow} {rows : List (List ℕ)} {loads at : ℕ} {new : List ℕ} (s : Stmt) (l : Label) → s ≡ get_or g.block i blank_stmt → flow ≡ Jump l → onward ≡ arrived l s.op
+      → Going g i flow rows loads new at → Going g (i + 1) onward rows loads new at
+  going_past {flow} {onward} {rows} {loads} {at} {new} s l es ef en o =
       record {
         past = o.past;
         wrote = retold refl (omega arith) o.wrote;
@@ -101,23 +101,23 @@ module _ (g : Given) (i : ℕ) (h : i < length g.block) where
       }
 
   -- a statement is run
-  pub going_on : {flow flow : Flow} {rows after : List (List ℕ)} {loads taken at p : ℕ} {new newer : List ℕ} (s : Stmt) (act : Act) (a b : ℕ)
+  pub going_on : {flow onward : Flow} {rows after : List (List ℕ)} {loads taken at p : ℕ} {new newer : List ℕ} (s : Stmt) (act : Act) (a b : ℕ)
       → 230 * i + 230 ≤ length g.trace → HeldOutput g.ids s.output → s ≡ get_or g.block i blank_stmt → flow ≡ Next → act ≡ act_of s.op
       → a ≡ value_in g.ids rows s.first → b ≡ value_in g.ids rows s.second
-      → after ≡ rows_after g.ids g.answers loads rows s act → taken ≡ loads_after loads act → flow ≡ flow_of act a
+      → after ≡ rows_after g.ids g.answers loads rows s act → taken ≡ loads_after loads act → onward ≡ flow_of act a
       → Wrote 230 new at (trace_words g.marks g.ids (events_of rows act a b)) newer p
-      → Going g i flow rows loads new at → Going g (i + 1) flow after taken newer p
-  going_on {flow} {flow} {rows} {after} {loads} {taken} {at} {p} {new} {newer} s act a b room held es ef ec ea eb er el en w o =
+      → Going g i flow rows loads new at → Going g (i + 1) onward after taken newer p
+  going_on {flow} {onward} {rows} {after} {loads} {taken} {at} {p} {new} {newer} s act a b room held es ef ec ea eb er el en w o =
       let m = machine rows loads in
-      let made : step_of g.ids g.answers m (get_or g.block i blank_stmt) ≡ record { events = events_of rows act a b; machine = machine after taken; flow = flow } =
-      ap (step_of g.ids g.answers m) (sym es) ∙ told g.ids g.answers rows after loads taken flow s act a b ec ea eb er el en in
+      let made : step_of g.ids g.answers m (get_or g.block i blank_stmt) ≡ record { events = events_of rows act a b; machine = machine after taken; flow = onward } =
+      ap (step_of g.ids g.answers m) (sym es) ∙ told g.ids g.answers rows after loads taken onward s act a b ec ea eb er el en in
       record {
         past = o.past ++ events_of rows act a b;
         wrote =
             retold (sym (words_append g.marks g.ids o.past (events_of rows act a b))) (omega arith)
             (then {k = 230 * i} {l = 230} (omega arith) o.wrote w);
         rest =
-            append_assoc o.past (events_of rows act a b) (run_from g.ids g.answers (drop (i + 1) g.block) flow (machine after taken))
+            append_assoc o.past (events_of rows act a b) (run_from g.ids g.answers (drop (i + 1) g.block) onward (machine after taken))
             ∙ ap (λ (x : Step). o.past ++ (x.events ++ run_from g.ids g.answers (drop (i + 1) g.block) x.flow x.machine)) (sym made)
             ∙ ap (λ (t : List Event). o.past ++ t) (sym (one_step g.ids g.answers g.block i h m))
             ∙ ap (λ (f : Flow). o.past ++ run_from g.ids g.answers (drop i g.block) f m) (sym ef)
