@@ -1,14 +1,15 @@
 // The block program: standard input through both passes to standard output.
 #![tactic(auto)]
 
-ghost use Rattle.std.specs.Prelude.{◌+◌, ◌≤◌, ◌<◌, ◌≡◌, length, take, IfOk, OnOk, IfSome};
-ghost use Rattle.std.specs.Io.KnownBytes.{Appends, Consumes, IsAtEnd};
+ghost use Rattle.std.specs.Prelude.{◌+◌, ◌≤◌, ◌<◌, ◌≡◌, length, take, OnOk, IfSome};
+ghost use Rattle.std.specs.Io.KnownBytes.{Appends};
 ghost use Rattle.print.specs.Rooms.{block_room};
 ghost use Rattle.print.specs.Texts.{written};
 ghost use Rattle.front.specs.Front.{input_room, answer_of};
 ghost use Rattle.front.specs.declared.Pass.TheVariants.{Both};
 
 use front::{Pass, treat};
+use input::fill;
 use print::print::Printed;
 use std::io;
 use std::io::{Read, Write};
@@ -37,23 +38,6 @@ fn answer(input: &[u8], out: &mut [u8]) -> usize
         Printed::NoRoom => 0,
         Printed::Written(n) => n,
     }
-}
-
-// Reads until `input` is full or the input ends. How many bytes stand at its start.
-fn fill<R: Read>(from: &mut R, input: &mut [u8]) -> io::Result<usize>
-    ensures fits { IfOk result (λ n. n ≤ length input.new) }
-    ensures bytes { IfOk result (λ n. Consumes (R.remaining from.old) (R.remaining from.new) (take n input.new)) }
-    ensures end { IfOk result (λ n. n < length input.new → IsAtEnd (R.remaining from.new)) }
-{
-    let mut done = 0;
-    while done < input.len() {
-        let n = from.read(&mut input[done..])?;
-        if n == 0 {
-            return Ok(done);
-        }
-        done += n;
-    }
-    Ok(done)
 }
 
 // The first `n` bytes of the page.

@@ -6,7 +6,7 @@ ghost use Rattle.std.specs.Prelude.{◌≡◌, length};
 mod record_fields; // record_fields.rt: the fields of a record
 mod cases; // cases.rt: one record, evaluated and compared
 
-use sections::input::fill;
+use input::fill;
 use sections::tally::{Tally, room};
 use std::io;
 

@@ -4,7 +4,7 @@
 mod cases; // cases.rt: one input, treated and compared
 
 use front::Pass;
-use sections::input::fill;
+use input::fill;
 use sections::tally::{Tally, page, room};
 use std::io;
 

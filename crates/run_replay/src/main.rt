@@ -7,7 +7,7 @@ mod hex; // hex.rt: bytes in hexadecimal
 mod words; // words.rt: a case's texts as input and as words
 mod cases; // cases.rt: one case, run and compared
 
-use sections::input::fill;
+use input::fill;
 use sections::tally::{Tally, room};
 use std::io;
 

@@ -3,7 +3,6 @@
 
 ghost use Rattle.std.specs.Prelude.{◌+◌, ◌<◌, ◌≤◌, length};
 
-pub mod input; // input.rt: a list, read into its room
 pub mod tally; // tally.rt: how many answers agree
 
 use fields::decimal::{Parsed, decimal};

@@ -6,8 +6,8 @@ ghost use Rattle.text_replay.specs.Answers.{page_room};
 
 mod cases; // cases.rt: one input, read, checked, printed and compared
 
+use input::fill;
 use pcode::block::Limits;
-use sections::input::fill;
 use sections::tally::{Tally, page, room};
 use std::io;
 

@@ -1,4 +1,6 @@
-// A recorded list, read into its room.
+// What a program reads: a lent slice, filled from a stream.
+#![tactic(auto)]
+
 ghost use Rattle.std.specs.Prelude.{◌<◌, ◌≤◌, length, take, IfOk};
 ghost use Rattle.std.specs.Io.KnownBytes.{Consumes, IsAtEnd};
 
