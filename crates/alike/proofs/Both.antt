@@ -1,22 +1,16 @@
 -- Treated blocks run alike: the second pass after any first one whose result's runs are the block's for some content of the temporaries.
-use Prim.Native.Nat.{ℕ, ◌≤◌}
-use mathlib.Core.Path.{◌≡◌, refl, ◌∙◌}
-use mathlib.Core.Bool.{true, false}
-use mathlib.Core.List.{List}
-use lib.Dec.{ltb}
-use lib.ListN.{length}
+use Rattle.std.proofs.Common.{ℕ, ◌≤◌, ◌≡◌, refl, ◌∙◌, true, false, List, ltb, length, Ok}
 use Rattle.pcode.specs.Block.{held, second_limits}
 use Rattle.pcode.specs.declared.block.Stmt.{Stmt}
 use Rattle.pcode.specs.declared.block.Block.{Block}
 use Rattle.pcode.specs.declared.block.Marks.{Marks}
 use Rattle.vars.specs.Vars.{vars_of}
-use Rattle.text.specs.declared.answer.Answer.TheVariants.{Ok}
 use Rattle.checks.specs.Checks.{check_of}
 use Rattle.checks.proofs.Passing.{passing}
 use Rattle.machine.specs.Class.{first_outside}
 use Rattle.machine.specs.declared.class.Class.{Class}
 use Rattle.dead_store.specs.Stays.{eliminated}
-use Rattle.step.specs.declared.Flow.TheVariants.{Next}
+use Rattle.std.specs.Prelude.{None as Next}
 use Rattle.run.specs.Run.{run_of, Shape}
 use Rattle.alike.specs.ById.{Start, StartsAs}
 use Rattle.alike.specs.Alike.{Alike}
@@ -69,8 +63,8 @@ second_pass_alike ms answers ss fit room one start rows rows' shape shape' same 
 
 -- both passes, of blocks that pass the checks and that refusal 16 does not meet
 pub both_checked : (c : Class) (ms : Marks) (answers : List ℕ) (b b₁ : Block)
-    → check_of second_limits b ≡ Ok → ltb (first_outside c (held b) 0 (held b)) (length (held b)) ≡ false
-    → check_of second_limits b₁ ≡ Ok → ltb (first_outside c (held b₁) 0 (held b₁)) (length (held b₁)) ≡ false
+    → check_of second_limits b ≡ Ok tt → ltb (first_outside c (held b) 0 (held b)) (length (held b)) ≡ false
+    → check_of second_limits b₁ ≡ Ok tt → ltb (first_outside c (held b₁) 0 (held b₁)) (length (held b₁)) ≡ false
     → in_one_instruction (held b₁) ≡ true → FirstAlike ms answers (held b) (held b₁)
     → (start : Start) (rows rows' : List (List ℕ)) → Shape rows → Shape rows'
     → StartsAs (vars_of (held b)) rows start → StartsAs (vars_of (eliminated ms (held b₁))) rows' start → fresh_run ms answers (held b) rows ≡ true
@@ -80,7 +74,7 @@ both_checked c ms answers b b₁ ok class ok₁ class₁ one first =
 
 -- the second pass alone, of such a block
 pub checked_alike : (c : Class) (ms : Marks) (answers : List ℕ) (b : Block)
-    → check_of second_limits b ≡ Ok → ltb (first_outside c (held b) 0 (held b)) (length (held b)) ≡ false
+    → check_of second_limits b ≡ Ok tt → ltb (first_outside c (held b) 0 (held b)) (length (held b)) ≡ false
     → in_one_instruction (held b) ≡ true → (start : Start) (rows rows' : List (List ℕ)) → Shape rows → Shape rows'
     → StartsAs (vars_of (held b)) rows start → StartsAs (vars_of (eliminated ms (held b))) rows' start → fresh_run ms answers (held b) rows ≡ true
     → Alike ms start (vars_of (held b)) (vars_of (eliminated ms (held b))) (run_of answers (held b) rows) (run_of answers (eliminated ms (held b)) rows')

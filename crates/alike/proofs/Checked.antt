@@ -1,23 +1,16 @@
 -- A block of the run class that passes the checks fits: what the laws ask of its statements.
-use Prim.Native.Nat.{ℕ, suc, ◌+◌, ◌≤◌, ◌<◌}
-use native.Mathlib.Omega.{arith}
-use mathlib.Core.Path.{◌≡◌, refl}
-use mathlib.Core.Bool.{Bool, true, false, not, true≢false, false≢true}
-use mathlib.Core.List.{List, [], ◌∷◌}
-use lib.Dec.{leb, ltb}
-use lib.ListN.{length, get_or, take}
-use borrow.Author.Tests.{leb-true, ltb-false}
+use Rattle.std.proofs.Common.{ℕ, suc, ◌+◌, ◌≤◌, ◌<◌, arith, ◌≡◌, refl, Bool, true, false, not, true≢false, List, [], ◌∷◌, leb, ltb, length, get_or, take, leb-true, ltb-false, Ok}
+use mathlib.Core.Bool.{false≢true}
 use Rattle.pcode.specs.Var.{pick, zero_id, as_operand}
 use Rattle.pcode.specs.Rules.{meets, output_need}
 use Rattle.pcode.specs.Block.{held, blank_stmt, second_limits}
 use Rattle.pcode.specs.declared.var.Operand.{Operand}
 use Rattle.pcode.specs.declared.var.Operand.TheVariants.{None, Const, Var}
-use Rattle.pcode.specs.declared.var.Output.{Output}
-use Rattle.pcode.specs.declared.var.Output.TheVariants as Out
+use Rattle.pcode.specs.Var.{Output}
+use Rattle.std.specs.declared.option.Option.TheVariants as Out
 use Rattle.pcode.specs.declared.op.Op.{Op}
 use Rattle.pcode.specs.declared.block.Stmt.{Stmt}
 use Rattle.pcode.specs.declared.block.Block.{Block}
-use Rattle.text.specs.declared.answer.Answer.TheVariants.{Ok}
 use Rattle.checks.specs.Statements.{good_size, good_node, good_operand, there, good_parts, met_needs}
 use Rattle.checks.specs.Checks.{check_of}
 use Rattle.checks.proofs.Passing.{Good, passing}
@@ -44,7 +37,7 @@ in_row (Var v) e = by (zero_id v.id) (good_size v.size) e
 -- an output that may not be there is not
 none : (o : Output) → not (there (as_operand o)) ≡ true → o ≡ Out.None
 none Out.None e = refl
-none (Out.Var v) e = absurd (false≢true e)
+none (Out.Some v) e = absurd (false≢true e)
 
 quiet : (c : Class) (op : Op) (o : Output) → in_class c op ≡ true → meets (output_need op) (there (as_operand o)) ≡ true → Quiet (act_of op) o
 quiet c (Op.Trap t) o h e = absurd (false≢true h)
@@ -98,7 +91,7 @@ fits_from c block i (s ∷ ss) h g =
         (fit_of c s (g 0 (omega arith)) (in_class_lem (in_class c s.op) (backward (take i block) s.op) e), rest (omega arith))
 
 -- a block that passes the checks and that refusal 16 does not meet
-pub all_fit : (c : Class) (b : Block) → check_of second_limits b ≡ Ok → ltb (first_outside c (held b) 0 (held b)) (length (held b)) ≡ false → AllFit (held b)
+pub all_fit : (c : Class) (b : Block) → check_of second_limits b ≡ Ok tt → ltb (first_outside c (held b) 0 (held b)) (length (held b)) ≡ false → AllFit (held b)
 all_fit c b e h =
     let l = ltb-false (first_outside c (held b) 0 (held b)) (length (held b)) h in
     fits_from c (held b) 0 (held b) (omega arith) (passing second_limits b e).each

@@ -1,7 +1,6 @@
 -- What an operation does in a run, where it stands in a stretch, and whether it has side effects, side by side.
-use Prim.Native.Nat.{ℕ}
-use mathlib.Core.Path.{◌≡◌, refl, sym, ap, ◌∙◌}
-use mathlib.Core.Bool.{Bool, true, false, true≢false, false≢true}
+use Rattle.std.proofs.Common.{ℕ, ◌≡◌, refl, sym, ap, ◌∙◌, Bool, true, false, true≢false}
+use mathlib.Core.Bool.{false≢true}
 use Rattle.pcode.specs.Rules.{side_effects}
 use Rattle.pcode.specs.declared.var.PcodeLabel.{PcodeLabel}
 use Rattle.pcode.specs.declared.op.CallOp.{CallOp}

@@ -1,17 +1,13 @@
 -- The second pass's soundness: any choice of kept statements that has a need at each place which meets the local rules runs alike, for some
 -- content of the temporaries at the markers.
-use Prim.Native.Nat.{ℕ, zero, suc}
-use mathlib.Core.Path.{◌≡◌, refl, sym, ap, ap₂, ◌∙◌}
-use mathlib.Core.Bool.{Bool, true, false, not, ◌&&◌, true≢false, false≢true}
-use mathlib.Core.List.{List, [], ◌∷◌, ◌++◌}
-use lib.Dec.{eqb}
-use borrow.Author.Tests.{eqb-true}
+use Rattle.std.proofs.Common.{ℕ, zero, suc, ◌≡◌, refl, sym, ap, ap₂, ◌∙◌, Bool, true, false, not, ◌&&◌, true≢false, List, [], ◌∷◌, ◌++◌, eqb, eqb-true}
+use mathlib.Core.Bool.{false≢true}
 use Rattle.pcode.specs.Var.{pick, as_operand}
 use Rattle.pcode.specs.Rules.{side_effects}
 use Rattle.pcode.specs.Block.{lasting}
 use Rattle.pcode.specs.declared.var.VarId.{VarId}
 use Rattle.pcode.specs.declared.var.PcodeLabel.{PcodeLabel}
-use Rattle.pcode.specs.declared.var.Output.{Output}
+use Rattle.pcode.specs.Var.{Output}
 use Rattle.pcode.specs.declared.block.Stmt.{Stmt}
 use Rattle.pcode.specs.declared.block.Marks.{Marks}
 use Rattle.checks.specs.Labels.{is_label}
@@ -21,8 +17,8 @@ use Rattle.live_tables.specs.Rows.{edge_of, ends, is_marker}
 use Rattle.dead_store.specs.Stays.{names, reads, writes}
 use Rattle.step.specs.Steps.{act_of, flow_of, loads_after}
 use Rattle.step.specs.declared.Act.{Act}
-use Rattle.step.specs.declared.Flow.{Flow}
-use Rattle.step.specs.declared.Flow.TheVariants.{Next, Jump}
+use Rattle.step.specs.Steps.{Flow}
+use Rattle.std.specs.Prelude.{None as Next, Some as Jump}
 use Rattle.run.specs.Run.{arrived}
 use Rattle.alike.specs.Premises.{reaches, lands, in_one_instruction}
 use Rattle.alike.proofs.Fits.{AllFit}

@@ -1,13 +1,6 @@
 -- A block that meets every premise, and of which the second pass drops a statement: it runs alike, over a table with one row less.
-use Prim.Native.Nat.{ℕ, ◌≤◌, ◌<◌}
-use native.Mathlib.Omega.{arith}
-use mathlib.Core.Path.{◌≡◌, refl, ap, ◌∙◌}
-use mathlib.Core.Bool.{true}
-use mathlib.Core.List.{List, []}
-use lib.Dec.{ltb, lit<, lit≤}
-use lib.ListN.{length, get_or, replicate, length-replicate, get_or-replicate, get_or-eq_default}
-use borrow.Author.Tests.{ltb-true, ltb-false}
-use Rattle.pcode.specs.Var.{eq_z}
+use Rattle.std.proofs.Common.{ℕ, ◌≤◌, ◌<◌, arith, ◌≡◌, refl, ap, ◌∙◌, true, List, [], ltb, lit<, lit≤, length, get_or, replicate, ltb-true, ltb-false}
+use lib.ListN.{length-replicate, get_or-replicate, get_or-eq_default}
 use Rattle.pcode.specs.Block.{has_id, no_marks}
 use Rattle.pcode.specs.declared.var.VarId.{VarId}
 use Rattle.vars.specs.Vars.{join_id, join_ids, vars_from, vars_of, row_of}
@@ -55,7 +48,7 @@ fits = (
 )
 
 two : length (vars_of dead_block) ≡ 2
-unfolding vars_of vars_from join_ids join_id has_id eq_z
+unfolding vars_of vars_from join_ids join_id has_id
 two = refl
 
 one : in_one_instruction dead_block ≡ true
@@ -63,7 +56,7 @@ unfolding in_one_instruction reaches
 one = refl
 
 fresh : fresh_run no_marks [] dead_block (rows 7) ≡ true
-unfolding fresh_run reads_fresh step_of plain_step result_in meaning read_of write_of num_of bytes_of vars_of vars_from join_ids join_id has_id row_of inside any_below eq_z
+unfolding fresh_run reads_fresh step_of plain_step result_in meaning read_of write_of num_of bytes_of vars_of vars_from join_ids join_id has_id row_of inside any_below
 fresh = refl
 
 pub dead_alike : Alike no_marks (λ id k. 7) (vars_of dead_block) (vars_of (eliminated no_marks dead_block)) (run_of [] dead_block (rows 7)) (run_of [] (eliminated no_marks dead_block) (rows 7))

@@ -1,10 +1,6 @@
 -- A part of a block fits, and names no more variables than the block.
-use Prim.Native.Nat.{suc, ◌≤◌}
-use native.Mathlib.Omega.{arith}
-use mathlib.Core.Path.{◌≡◌, refl, sym, ap, ◌∙◌, subst}
-use mathlib.Core.Bool.{Bool, true, false, ◌||◌, true≢false, false≢true}
-use mathlib.Core.List.{List, [], ◌∷◌, ◌++◌}
-use lib.ListN.{length}
+use Rattle.std.proofs.Common.{suc, ◌≤◌, arith, ◌≡◌, refl, sym, ap, ◌∙◌, subst, Bool, true, false, ◌||◌, true≢false, List, [], ◌∷◌, ◌++◌, length}
+use mathlib.Core.Bool.{false≢true}
 use Rattle.pcode.specs.Var.{pick, same_id}
 use Rattle.pcode.specs.Block.{has_id}
 use Rattle.pcode.specs.declared.var.VarId.{VarId}

@@ -1,10 +1,6 @@
 -- A run that reads no temporary byte last written by an earlier instruction does not care what markers leave in the temporaries written so far.
-use Prim.Native.Nat.{ℕ, suc, ◌≤◌}
-use mathlib.Core.Path.{◌≡◌, refl, sym, ap, ap₂, ◌∙◌}
-use mathlib.Core.Bool.{Bool, true, false, not, ◌&&◌, ◌||◌, true≢false, false≢true}
-use mathlib.Core.List.{List, [], ◌∷◌, ◌++◌}
-use borrow.Author.Tests.{eq-eqb}
-use lib.ListN.{length}
+use Rattle.std.proofs.Common.{ℕ, suc, ◌≤◌, ◌≡◌, refl, sym, ap, ap₂, ◌∙◌, Bool, true, false, not, ◌&&◌, ◌||◌, true≢false, List, [], ◌∷◌, ◌++◌, eq-eqb, length}
+use mathlib.Core.Bool.{false≢true}
 use Rattle.pcode.specs.Var.{same_id}
 use Rattle.pcode.specs.Block.{lasting}
 use Rattle.pcode.specs.declared.var.VarId.{VarId}
@@ -20,8 +16,8 @@ use Rattle.dead_store.specs.Stays.{names, writes}
 use Rattle.machine.specs.Values.{value_in}
 use Rattle.step.specs.Steps.{Machine, act_of, events_of, flow_of, rows_after, loads_after, step_of}
 use Rattle.step.specs.declared.Act.{Act}
-use Rattle.step.specs.declared.Flow.{Flow}
-use Rattle.step.specs.declared.Flow.TheVariants.{Next, Jump}
+use Rattle.step.specs.Steps.{Flow}
+use Rattle.std.specs.Prelude.{None as Next, Some as Jump}
 use Rattle.run.specs.Run.{arrived, run_from, Shape}
 use Rattle.alike.specs.ById.{Start}
 use Rattle.alike.specs.Premises.{Since, stale, reads_stale, wrote, since_after, reads_fresh}

@@ -1,17 +1,13 @@
 -- A run by id, where a marker leaves something in the temporary bytes that were changed so far: the run over rows is the one where it leaves
 -- them alone.
-use Prim.Native.Nat.{ℕ, zero, suc, ◌+◌, ◌-◌, ◌*◌}
-use mathlib.Core.Bool.{Bool, not, ◌&&◌, ◌||◌}
-use mathlib.Core.List.{List, [], ◌∷◌, ◌++◌}
-use lib.Dec.{eqb, ltb}
-use lib.ListN.{get_or}
+use Rattle.std.proofs.Common.{ℕ, zero, suc, ◌+◌, ◌-◌, ◌*◌, Bool, not, ◌&&◌, ◌||◌, List, [], ◌∷◌, ◌++◌, eqb, ltb, get_or}
 use Rattle.pcode.specs.Var.{pick, cut, size_of, size_out, as_operand}
 use Rattle.pcode.specs.Block.{lasting}
 use Rattle.pcode.specs.declared.var.VarId.{VarId}
 use Rattle.pcode.specs.declared.var.Operand.{Operand}
 use Rattle.pcode.specs.declared.var.Operand.TheVariants.{None, Const, Var}
-use Rattle.pcode.specs.declared.var.Output.{Output}
-use Rattle.pcode.specs.declared.var.Output.TheVariants as Out
+use Rattle.pcode.specs.Var.{Output}
+use Rattle.std.specs.declared.option.Option.TheVariants as Out
 use Rattle.pcode.specs.declared.block.Stmt.{Stmt}
 use Rattle.pcode.specs.declared.block.Marks.{Marks}
 use Rattle.dead_store.specs.Stays.{names}
@@ -19,8 +15,8 @@ use Rattle.meaning.specs.Meaning.{meaning}
 use Rattle.state.specs.Bytes.{bytes_of}
 use Rattle.step.specs.Steps.{act_of, answer_at, loads_after, flow_of}
 use Rattle.step.specs.declared.Act.{Act}
-use Rattle.step.specs.declared.Flow.{Flow}
-use Rattle.step.specs.declared.Flow.TheVariants.{Next, Jump}
+use Rattle.step.specs.Steps.{Flow}
+use Rattle.std.specs.Prelude.{None as Next, Some as Jump}
 use Rattle.run.specs.Run.{arrived}
 
 -- the bytes of every variable
@@ -43,7 +39,7 @@ value_by s (Var v) = num_by s v.id v.offset v.size
 
 abbrev pub offset_out : Output → ℕ
 offset_out Out.None = 0
-offset_out (Out.Var v) = v.offset
+offset_out (Out.Some v) = v.offset
 
 -- the state after a number was written to an output
 unfoldable pub put_by : State → Output → ℕ → State

@@ -1,14 +1,12 @@
 -- The statements that stay by the second pass's definition meet the local rules: what is needed is what it says.
-use Prim.Native.Nat.{ℕ}
-use mathlib.Core.Path.{◌≡◌, refl, sym, ap, ◌∙◌, subst}
-use mathlib.Core.Bool.{Bool, true, false, not, ◌&&◌, ◌||◌, true≢false, false≢true}
-use mathlib.Core.List.{List, [], ◌∷◌}
+use Rattle.std.proofs.Common.{ℕ, ◌≡◌, refl, sym, ap, ◌∙◌, subst, Bool, true, false, not, ◌&&◌, ◌||◌, true≢false, List, [], ◌∷◌}
+use mathlib.Core.Bool.{false≢true}
 use Rattle.pcode.specs.Var.{same_id, as_operand}
 use Rattle.pcode.specs.Rules.{side_effects}
 use Rattle.pcode.specs.Block.{lasting}
 use Rattle.pcode.specs.declared.var.VarId.{VarId}
-use Rattle.pcode.specs.declared.var.Output.{Output}
-use Rattle.pcode.specs.declared.var.Output.TheVariants as Out
+use Rattle.pcode.specs.Var.{Output}
+use Rattle.std.specs.declared.option.Option.TheVariants as Out
 use Rattle.pcode.specs.declared.block.Stmt.{Stmt}
 use Rattle.pcode.specs.declared.block.Marks.{Marks}
 use Rattle.pcode.proofs.Ids.{same_id_true}
@@ -133,7 +131,7 @@ edge_writes s f e id k = ap (λ (o : Output). names (as_operand o) id k) (quiet_
 -- a statement that does not stay writes no byte that passes the test
 unmet : (o : Output) (f : VarId → ℕ → Bool) → writes_some o f ≡ false → (id : VarId) (k : ℕ) → names (as_operand o) id k ≡ true → f id k ≡ false
 unmet Out.None f e id k h = absurd (false≢true h)
-unmet (Out.Var v) f e id k h =
+unmet (Out.Some v) f e id k h =
     let i : inside v k ≡ true = and_right (same_id v.id id) (inside v k) h in
     let q : (inside v k && f v.id k) ≡ false = any_not 16 (λ n. inside v n && f v.id n) k e (inside_small v k i) in
     let z : f v.id k ≡ false = sym (rw i) ∙ q in

@@ -1,14 +1,8 @@
 -- What the second pass leaves of a checked block of the run class passes the checks, and refusal 16 does not meet it.
-use Prim.Native.Nat.{ℕ, suc, ◌+◌, ◌≤◌}
-use native.Mathlib.Omega.{arith}
-use native.Mathlib.Nat.{add-zero}
-use mathlib.Core.Path.{◌≡◌, refl, sym, ap, ◌∙◌}
-use mathlib.Core.Bool.{Bool, true, false, not, ◌||◌, true≢false, false≢true}
-use mathlib.Core.List.{List, [], ◌∷◌, ◌++◌, append_assoc}
-use lib.Dec.{ltb}
-use lib.ListN.{length, take, drop as past, length-append, length-take}
+use Rattle.std.proofs.Common.{ℕ, suc, ◌+◌, ◌≤◌, arith, add-zero, ◌≡◌, refl, sym, ap, ◌∙◌, Bool, true, false, not, ◌||◌, List, [], ◌∷◌, ◌++◌, append_assoc, ltb, length, take, length-append, length-take, ltb-false, le-ltb, Ok}
+use mathlib.Core.Bool.{false≢true}
+use lib.ListN.{drop as past}
 use lib.Seq.{take-append_seam}
-use borrow.Author.Tests.{ltb-false, le-ltb}
 use Rattle.pcode.specs.Var.{pick}
 use Rattle.pcode.specs.Rules.{side_effects}
 use Rattle.pcode.specs.Block.{held, second_limits, blank_stmts, lasting}
@@ -18,15 +12,12 @@ use Rattle.pcode.specs.declared.op.Op.{Op}
 use Rattle.pcode.specs.declared.block.Stmt.{Stmt}
 use Rattle.pcode.specs.declared.block.Block.{Block}
 use Rattle.pcode.specs.declared.block.Marks.{Marks}
-use Rattle.pcode.specs.declared.refusal.Refusal.{Refusal}
 use Rattle.vars.specs.Vars.{ids_of, join_ids, vars_from, vars_of, over_from}
 use Rattle.vars.proofs.Rows.{ways, vars_longer}
-use Rattle.text.specs.declared.answer.Answer.{Answer}
-use Rattle.text.specs.declared.answer.Answer.TheVariants.{Ok, Refused}
-use Rattle.checks.specs.Statements.{good_parts, met_needs, good_sizes, stmt_check, else_then, checks_from}
+use Rattle.checks.specs.Statements.{good_parts, met_needs, good_sizes, stmt_check, checks_from}
 use Rattle.checks.specs.Labels.{is_label, has_label, good_label, labels_from}
 use Rattle.checks.specs.Checks.{variables, check_of}
-use Rattle.checks.proofs.Passing.{passing}
+use Rattle.checks.proofs.Passing.{then_ok, both_ok, passing}
 use Rattle.machine.specs.Class.{in_class, backward, outside, first_outside}
 use Rattle.machine.specs.declared.class.Class.{Class}
 use Rattle.dead_store.specs.Stays.{read_first, persists, judge, dead_of, eliminated, block_of}
@@ -85,25 +76,8 @@ module _ {ms : Marks} where
   pass_left (keep {s = s} e c) f g same a a' h k = (same a a' s.op h ∙ k.0, pass_left e f g same (a ++ (s ∷ [])) (a' ++ (s ∷ [])) (with_kept a a' s h) k.1)
   pass_left (drop {s = s} e q v nn cc) f g same a a' h k = pass_left e f g same (a ++ (s ∷ [])) a' (with_dropped a a' s q h) k.1
 
--- an answer that is no refusal
-code : Answer → Bool
-code Ok = true
-code (Refused why) = false
-
-never : {why : Refusal} → Refused why ≡ Ok → ⊥
-unfolding code
-never e = true≢false (sym (ap code e))
-
-then_ok : (t : Bool) (why : Refusal) (next : Answer) → pick t next (Refused why) ≡ Ok → (t ≡ true) × (next ≡ Ok)
-then_ok true why next e = (refl, e)
-then_ok false why next e = absurd (never e)
-
-both_ok : (a next : Answer) → else_then a next ≡ Ok → (a ≡ Ok) × (next ≡ Ok)
-both_ok Ok next e = (refl, e)
-both_ok (Refused why) next e = absurd (never e)
-
 -- a statement passes at any place
-moved : (i j : ℕ) (s : Stmt) → stmt_check i s ≡ Ok → stmt_check j s ≡ Ok
+moved : (i j : ℕ) (s : Stmt) → stmt_check i s ≡ Ok tt → stmt_check j s ≡ Ok tt
 unfolding stmt_check
 moved i j s e =
     let x = then_ok (good_parts s) _ _ e in
@@ -112,7 +86,7 @@ moved i j s e =
     rw (x.0, y.0, z.0)
 
 module _ {ms : Marks} where
-  checks_left : {r r' : List Stmt} {N C : Set} → Elim ms r r' N C → (i j : ℕ) → checks_from i r ≡ Ok → checks_from j r' ≡ Ok
+  checks_left : {r r' : List Stmt} {N C : Set} → Elim ms r r' N C → (i j : ℕ) → checks_from i r ≡ Ok tt → checks_from j r' ≡ Ok tt
   unfolding checks_from
   checks_left (fin p) i j e = refl
   checks_left (keep {s = s} {r = r} d c) i j e =
@@ -120,13 +94,8 @@ module _ {ms : Marks} where
       rw (moved i j s x.0) (checks_left d (i + 1) (j + 1) x.1)
   checks_left (drop {s = s} {r = r} d q v nn cc) i j e = checks_left d (i + 1) j (both_ok (stmt_check i s) (checks_from (i + 1) r) e).1
 
-checks_of : (b : Block) → check_of second_limits b ≡ Ok → checks_from 0 (held b) ≡ Ok
-unfolding check_of
-checks_of b e = (both_ok (checks_from 0 (held b)) _ (not_first (ltb 129 b.count) _ _ e)).0
-  where
-    not_first : (t : Bool) (why : Refusal) (next : Answer) → pick t (Refused why) next ≡ Ok → next ≡ Ok
-    not_first true why next e = absurd (never e)
-    not_first false why next e = e
+checks_of : (b : Block) → check_of second_limits b ≡ Ok tt → checks_from 0 (held b) ≡ Ok tt
+checks_of b e = (passing second_limits b e).checked
 
 -- the walks by place are those with the statements above
 module _ (block : List Stmt) where
@@ -139,7 +108,7 @@ module _ (block : List Stmt) where
   place : (a : List Stmt) (s : Stmt) → length (a ++ (s ∷ [])) ≡ length a + 1
   place a s = length-append a (s ∷ [])
 
-  pub labels_pass : (a ss : List Stmt) → a ++ ss ≡ block → labels_from block (length a) ss ≡ Ok → AllPass (good_label block) a ss
+  pub labels_pass : (a ss : List Stmt) → a ++ ss ≡ block → labels_from block (length a) ss ≡ Ok tt → AllPass (good_label block) a ss
   unfolding labels_from
   labels_pass a [] q e = tt
   labels_pass a (s ∷ ss) q e =
@@ -148,7 +117,7 @@ module _ (block : List Stmt) where
         labels_pass (a ++ (s ∷ [])) ss (next_is a s ss q) (ap (λ (n : ℕ). labels_from block n ss) (place a s) ∙ x.1),
       )
 
-  pub labels_ok : (a ss : List Stmt) → a ++ ss ≡ block → AllPass (good_label block) a ss → labels_from block (length a) ss ≡ Ok
+  pub labels_ok : (a ss : List Stmt) → a ++ ss ≡ block → AllPass (good_label block) a ss → labels_from block (length a) ss ≡ Ok tt
   unfolding labels_from
   labels_ok a [] q h = refl
   labels_ok a (s ∷ ss) q h =
@@ -235,7 +204,7 @@ few_vars m l (s ∷ ss) h =
     let k = vars_longer (join_ids l (ids_of s)) ss in
     rw (le-ltb m (length (join_ids l (ids_of s))) (omega arith)) (ap suc (few_vars m (join_ids l (ids_of s)) ss h))
 
-pub vars_ok : (ss : List Stmt) → length (vars_of ss) ≤ 112 → variables 112 ss ≡ Ok
+pub vars_ok : (ss : List Stmt) → length (vars_of ss) ≤ 112 → variables 112 ss ≡ Ok tt
 unfolding variables vars_of
 vars_ok ss h = rw (few_vars 112 [] ss h, le-ltb (length ss) (length ss) (omega arith))
 
@@ -243,7 +212,7 @@ vars_ok ss h = rw (few_vars 112 [] ss h, le-ltb (length ss) (length ss) (omega a
 pub held_block : (l : List Stmt) → held (block_of l) ≡ l
 held_block l = take-append_seam l (past (length l) blank_stmts)
 
-module _ (c : Class) (ms : Marks) (b : Block) (ok : check_of second_limits b ≡ Ok) (class : ltb (first_outside c (held b) 0 (held b)) (length (held b)) ≡ false) where
+module _ (c : Class) (ms : Marks) (b : Block) (ok : check_of second_limits b ≡ Ok tt) (class : ltb (first_outside c (held b) 0 (held b)) (length (held b)) ≡ false) where
   abbrev left : List Stmt
   left = eliminated ms (held b)
 
@@ -260,14 +229,14 @@ module _ (c : Class) (ms : Marks) (b : Block) (ok : check_of second_limits b ≡
   variables_left : length (vars_of left) ≤ 112
   variables_left = let f = vars_without (dead_of (judge (persists ms (held b)) (held b))) (held b) in let n = (passing second_limits b ok).vars in omega arith
 
-  labels_ok_left : labels_from left 0 left ≡ Ok
+  labels_ok_left : labels_from left 0 left ≡ Ok tt
   labels_ok_left =
       labels_ok left [] left refl
       (pass_left derived (good_label (held b)) (good_label left) (good_same (held b) left (labels_left derived)) [] [] (λ l. refl)
       (labels_pass (held b) [] (held b) refl (passing second_limits b ok).labels))
 
   -- it passes the checks
-  pub left_checked : check_of second_limits (block_of left) ≡ Ok
+  pub left_checked : check_of second_limits (block_of left) ≡ Ok tt
   unfolding check_of
   left_checked = rw (held_block left, le-ltb 129 (length left) small, checks_left derived 0 0 (checks_of b ok), vars_ok left variables_left) labels_ok_left
 

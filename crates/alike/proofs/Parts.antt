@@ -1,19 +1,14 @@
 -- What reading and writing by id depend on, and leave alone.
-use Prim.Native.Nat.{ℕ, zero, suc, ◌+◌, ◌-◌, ◌*◌, ◌≤◌, ◌<◌}
-use native.Mathlib.Omega.{arith}
-use native.Mathlib.Nat.{mod-lt}
-use mathlib.Core.Path.{◌≡◌, refl, sym, ap₂, fun_ext, ◌∙◌}
-use mathlib.Core.Bool.{Bool, true, false, ◌&&◌, true≢false}
-use lib.Dec.{ltb, lit<}
-use lib.ListN.{get_or, get_or-eq_default}
-use borrow.Author.Tests.{lt-ltb, le-leb, ltb-true, ltb-false}
+use Rattle.std.proofs.Common.{ℕ, zero, suc, ◌+◌, ◌-◌, ◌*◌, ◌≤◌, ◌<◌, arith, mod-lt, ◌≡◌, refl, sym, ap₂, ◌∙◌, Bool, true, false, ◌&&◌, true≢false, ltb, lit<, get_or, lt-ltb, le-leb, ltb-true, ltb-false}
+use mathlib.Core.Path.{fun_ext}
+use lib.ListN.{get_or-eq_default}
 use Rattle.pcode.specs.Var.{pick, as_operand}
 use Rattle.pcode.specs.Block.{lasting}
 use Rattle.pcode.specs.declared.var.VarId.{VarId}
 use Rattle.pcode.specs.declared.var.VarNode.{VarNode}
 use Rattle.pcode.specs.declared.var.Operand.{Operand}
 use Rattle.pcode.specs.declared.var.Operand.TheVariants.{None, Const, Var}
-use Rattle.pcode.specs.declared.var.Output.{Output}
+use Rattle.pcode.specs.Var.{Output}
 use Rattle.pcode.specs.declared.block.Marks.{Marks}
 use Rattle.pcode.proofs.Ids.{same_id_refl}
 use Rattle.vars.proofs.Rows.{ways}

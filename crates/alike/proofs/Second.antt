@@ -1,18 +1,12 @@
 -- The second pass by id: the run of what it leaves is the block's for some content of the temporaries, and that does not matter where no stale
 -- temporary byte is read.
-use Prim.Native.Nat.{ℕ, ◌≤◌}
-use native.Mathlib.Omega.{arith}
-use mathlib.Core.Path.{◌≡◌, refl, sym, ap, ◌∙◌}
-use mathlib.Core.Bool.{true, false}
-use mathlib.Core.List.{List}
-use lib.Dec.{ltb, lit<}
-use lib.ListN.{length}
+use Rattle.std.proofs.Common.{ℕ, ◌≤◌, arith, ◌≡◌, refl, sym, ap, ◌∙◌, true, false, List, ltb, lit<, length}
 use Rattle.pcode.specs.Block.{lasting}
 use Rattle.pcode.specs.declared.block.Stmt.{Stmt}
 use Rattle.pcode.specs.declared.block.Marks.{Marks}
 use Rattle.vars.specs.Vars.{vars_of}
 use Rattle.dead_store.specs.Stays.{read_first, persists, judge, dead_of, eliminated}
-use Rattle.step.specs.declared.Flow.TheVariants.{Next}
+use Rattle.std.specs.Prelude.{None as Next}
 use Rattle.run.specs.Run.{start_of, run_of, Shape}
 use Rattle.alike.specs.ById.{Start, StartsAs}
 use Rattle.alike.specs.Premises.{in_one_instruction, none_yet, fresh_run}

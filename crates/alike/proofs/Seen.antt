@@ -1,23 +1,18 @@
 -- What is seen of a run over rows is the run by id where markers leave the temporaries alone; and runs of which the same is seen are alike.
-use Prim.Native.Nat.{ℕ, ◌≤◌}
-use native.Mathlib.Omega.{arith}
-use mathlib.Core.Path.{◌≡◌, refl, sym, ap, ap₂, ◌∙◌}
-use mathlib.Core.List.{List, [], ◌∷◌, ◌++◌, head_d, tail, nil≢cons}
-use lib.Dec.{eqb}
-use lib.ListN.{length, get_or}
-use borrow.Author.Tests.{lt-ltb}
+use Rattle.std.proofs.Common.{ℕ, ◌≤◌, arith, ◌≡◌, refl, sym, ap, ap₂, ◌∙◌, List, [], ◌∷◌, ◌++◌, eqb, length, get_or, lt-ltb}
+use mathlib.Core.List.{head_d, tail, nil≢cons}
 use Rattle.pcode.specs.Var.{as_operand}
 use Rattle.pcode.specs.declared.var.VarId.{VarId}
-use Rattle.pcode.specs.declared.var.Output.{Output}
-use Rattle.pcode.specs.declared.var.Output.TheVariants as Out
+use Rattle.pcode.specs.Var.{Output}
+use Rattle.std.specs.declared.option.Option.TheVariants as Out
 use Rattle.pcode.specs.declared.block.Stmt.{Stmt}
 use Rattle.pcode.specs.declared.block.Marks.{Marks}
 use Rattle.machine.specs.Values.{value_in, written, result_in, plain_step}
 use Rattle.step.specs.Events.{Event, Loaded, Stored, Taken, Marked, Ended}
 use Rattle.step.specs.Steps.{Machine, act_of, events_of, flow_of, rows_after, loads_after, loaded_rows, step_of}
 use Rattle.step.specs.declared.Act.{Act}
-use Rattle.step.specs.declared.Flow.{Flow}
-use Rattle.step.specs.declared.Flow.TheVariants.{Next, Jump}
+use Rattle.step.specs.Steps.{Flow}
+use Rattle.std.specs.Prelude.{None as Next, Some as Jump}
 use Rattle.run.specs.Run.{arrived, run_from, Shape}
 use Rattle.run.proofs.Bytes.{write_shape}
 use Rattle.vars.specs.Vars.{row_of}
@@ -32,7 +27,7 @@ use Rattle.alike.proofs.Tables.{state_of, Known, KnownStmt, AllKnown, value_rows
 -- a write to an output keeps the shape
 pub shape_written : (ids : List VarId) (rows : List (List ℕ)) (o : Output) (x : ℕ) → length ids ≤ 112 → InRow (as_operand o) → Known ids (as_operand o) → Shape rows → Shape (written ids rows o x)
 shape_written ids rows Out.None x m f h s = s
-shape_written ids rows (Out.Var v) x m f h s =
+shape_written ids rows (Out.Some v) x m f h s =
     write_shape rows (row_of ids v.id) v.offset v.size x s (let b = row_below ids v.id h in omega arith) f
 
 -- markers that leave the temporaries alone go on doing so

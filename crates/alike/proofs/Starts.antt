@@ -1,10 +1,5 @@
 -- A start may be taken to have bytes below 256: at rows of bytes it makes no difference.
-use Prim.Native.Nat.{ℕ, ◌%◌, ◌<◌}
-use native.Mathlib.Nat.{mod-lt, mod-eq_of_lt}
-use mathlib.Core.Path.{◌≡◌, refl, sym, ◌∙◌, subst}
-use mathlib.Core.Bool.{Bool, true, false}
-use mathlib.Core.List.{List}
-use lib.Dec.{lit<}
+use Rattle.std.proofs.Common.{ℕ, ◌%◌, ◌<◌, mod-lt, mod-eq_of_lt, ◌≡◌, refl, sym, ◌∙◌, subst, Bool, true, false, List, lit<}
 use Rattle.pcode.specs.Var.{pick}
 use Rattle.pcode.specs.Block.{has_id}
 use Rattle.pcode.specs.declared.var.VarId.{VarId}

@@ -1,21 +1,15 @@
 -- A table's rows as a state by id: what is read and written there is what is read and written by id.
-use Prim.Native.Nat.{ℕ, zero, suc, ◌+◌, ◌-◌, ◌*◌, ◌≤◌, ◌<◌}
-use native.Mathlib.Omega.{arith}
-use native.Mathlib.Numerals.{add-one}
-use mathlib.Core.Path.{◌≡◌, refl, sym, ap, ap₂, fun_ext, ◌∙◌}
-use mathlib.Core.Bool.{Bool, true, false, ◌&&◌, true≢false}
-use mathlib.Core.List.{List, [], ◌∷◌}
-use lib.Dec.{leb, ltb}
-use lib.ListN.{length, get_or, take, drop}
-use borrow.Author.Tests.{lt-ltb, le-ltb, le-leb, lt-leb, ltb-true, ltb-false}
+use Rattle.std.proofs.Common.{ℕ, zero, suc, ◌+◌, ◌-◌, ◌*◌, ◌≤◌, ◌<◌, arith, add-one, ◌≡◌, refl, sym, ap, ap₂, ◌∙◌, Bool, true, false, ◌&&◌, true≢false, List, [], ◌∷◌, leb, ltb, length, get_or, take, drop, lt-ltb, le-ltb, le-leb, ltb-true, ltb-false}
+use mathlib.Core.Path.{fun_ext}
+use borrow.Author.Tests.{lt-leb}
 use Rattle.pcode.specs.Var.{pick, same_id, as_operand}
 use Rattle.pcode.specs.Block.{has_id}
 use Rattle.pcode.specs.declared.var.VarId.{VarId}
 use Rattle.pcode.specs.declared.var.VarNode.{VarNode}
 use Rattle.pcode.specs.declared.var.Operand.{Operand}
 use Rattle.pcode.specs.declared.var.Operand.TheVariants.{None, Const, Var}
-use Rattle.pcode.specs.declared.var.Output.{Output}
-use Rattle.pcode.specs.declared.var.Output.TheVariants as Out
+use Rattle.pcode.specs.Var.{Output}
+use Rattle.std.specs.declared.option.Option.TheVariants as Out
 use Rattle.pcode.specs.declared.block.Stmt.{Stmt}
 use Rattle.pcode.proofs.Ids.{same_id_true, same_id_refl}
 use Rattle.vars.specs.Vars.{ids_of, join_ids, vars_from, vars_of, row_of}
@@ -125,9 +119,9 @@ module _ (ids : List VarId) (start : Start) (room : length ids ≤ 112) where
 
     module _ (v : VarNode) (x : ℕ) (f : v.offset + v.size ≤ 16) (h : has_id ids v.id ≡ true) where
       abbrev after : List (List ℕ)
-      after = written ids rows (Out.Var v) x
+      after = written ids rows (Out.Some v) x
 
-      own : (k : ℕ) → k < 16 → state_of ids start after v.id k ≡ put_by (state_of ids start rows) (Out.Var v) x v.id k
+      own : (k : ℕ) → k < 16 → state_of ids start after v.id k ≡ put_by (state_of ids start rows) (Out.Some v) x v.id k
       unfolding put_by
       own k l =
           state_at after v.id k h l
@@ -138,7 +132,7 @@ module _ (ids : List VarId) (start : Start) (room : length ids ≤ 112) where
       apart : (id : VarId) → same_id v.id id ≡ false → v.id ≡ id → ⊥
       apart id n e = true≢false (sym (same_id_refl v.id) ∙ ap (λ (i : VarId). same_id v.id i) e ∙ n)
 
-      other : (id : VarId) (k : ℕ) → k < 16 → same_id v.id id ≡ false → state_of ids start after id k ≡ put_by (state_of ids start rows) (Out.Var v) x id k
+      other : (id : VarId) (k : ℕ) → k < 16 → same_id v.id id ≡ false → state_of ids start after id k ≡ put_by (state_of ids start rows) (Out.Some v) x id k
       unfolding put_by state_of seen_of
       other id k l n =
           rw (n, lt-ltb k 16 l)
@@ -147,20 +141,20 @@ module _ (ids : List VarId) (start : Start) (room : length ids ≤ 112) where
           (λ e. apart id n (sym (row_apart ids id v.id t h e))))
           (λ t. refl))
 
-      past : (id : VarId) (k : ℕ) → 16 ≤ k → state_of ids start after id k ≡ put_by (state_of ids start rows) (Out.Var v) x id k
+      past : (id : VarId) (k : ℕ) → 16 ≤ k → state_of ids start after id k ≡ put_by (state_of ids start rows) (Out.Some v) x id k
       unfolding put_by state_of inside
       past id k l =
           let e : ltb k (end_of v) ≡ false =
           le-ltb k (end_of v) (ways (ltb (v.offset + v.size) 16) (λ t. rw t (omega arith)) (λ t. rw t l)) in
           rw (le-ltb k 16 l, e) (ways (same_id v.id id) (λ t. ways (leb v.offset k) (λ u. rw (t, u)) (λ u. rw (t, u))) (λ t. rw t))
 
-      pub put_var : state_of ids start after ≡ put_by (state_of ids start rows) (Out.Var v) x
+      pub put_var : state_of ids start after ≡ put_by (state_of ids start rows) (Out.Some v) x
       put_var =
           fun_ext λ id. fun_ext λ k. ways (ltb k 16)
           (λ t. ways (same_id v.id id) (λ u. subst_id id k (same_id_true v.id id u) (ltb-true k 16 t)) (other id k (ltb-true k 16 t)))
           (λ t. past id k (ltb-false k 16 t))
         where
-          subst_id : (id : VarId) (k : ℕ) → v.id ≡ id → k < 16 → state_of ids start after id k ≡ put_by (state_of ids start rows) (Out.Var v) x id k
+          subst_id : (id : VarId) (k : ℕ) → v.id ≡ id → k < 16 → state_of ids start after id k ≡ put_by (state_of ids start rows) (Out.Some v) x id k
           subst_id id k e l = rw (← e) (own k l)
 
     put_none : (x : ℕ) → state_of ids start rows ≡ put_by (state_of ids start rows) Out.None x
@@ -170,4 +164,4 @@ module _ (ids : List VarId) (start : Start) (room : length ids ≤ 112) where
     -- a write by rows is the write by id
     pub put_rows : (o : Output) (x : ℕ) → InRow (as_operand o) → Known ids (as_operand o) → state_of ids start (written ids rows o x) ≡ put_by (state_of ids start rows) o x
     put_rows Out.None x f h = put_none x
-    put_rows (Out.Var v) x f h = put_var v x f h
+    put_rows (Out.Some v) x f h = put_var v x f h

@@ -1,12 +1,11 @@
 -- Worked examples: what meets each premise and what breaks it, and two blocks that do not run alike where one is broken.
 use Rattle.std.specs.Prelude.{ℕ, ◌-◌, ◌^◌, ◌≡◌, refl, true, false, List, [], ◌∷◌, pos, negsuc, get_or, replicate}
 use Rattle.std.proofs.Common.{arith, lit<}
-use Rattle.pcode.specs.Var.{eq_z}
 use Rattle.pcode.specs.Block.{stmt_of, has_id, no_marks}
 use Rattle.pcode.specs.declared.var.VarId.{VarId}
 use Rattle.pcode.specs.declared.var.Operand.{Operand}
 use Rattle.pcode.specs.declared.var.Operand.TheVariants.{None, Const, Var}
-use Rattle.pcode.specs.declared.var.Output.TheVariants as Out
+use Rattle.std.specs.declared.option.Option.TheVariants as Out
 use Rattle.pcode.specs.declared.op.OneOp.TheVariants.{Copy}
 use Rattle.pcode.specs.declared.op.Op.TheVariants as Op
 use Rattle.pcode.specs.declared.block.Stmt.{Stmt}
@@ -39,7 +38,7 @@ byte id = Var (record { id = id; offset = 0; size = 1 })
 
 -- a copy to the lowest byte of a variable
 abbrev pub copy : VarId → Operand → Stmt
-copy id a = stmt_of (Op.One Copy) (Out.Var (record { id = id; offset = 0; size = 1 })) a None
+copy id a = stmt_of (Op.One Copy) (Out.Some (record { id = id; offset = 0; size = 1 })) a None
 
 -- a marker
 abbrev pub marker : Stmt
@@ -84,16 +83,16 @@ too_long h = omega (arith, h.0.0)
 
 -- a temporary that its own instruction wrote, and one that nothing wrote
 fresh : fresh_run no_marks [] (copy t (Const 5 1) ∷ copy v1 (byte t) ∷ []) (rows 7) ≡ true
-unfolding fresh_run reads_fresh step_of plain_step result_in meaning read_of write_of num_of bytes_of vars_of vars_from join_ids join_id has_id row_of inside any_below eq_z
+unfolding fresh_run reads_fresh step_of plain_step result_in meaning read_of write_of num_of bytes_of vars_of vars_from join_ids join_id has_id row_of inside any_below
 fresh = refl
 
 never_written : fresh_run no_marks [] (marker ∷ copy v1 (byte t) ∷ []) (rows 7) ≡ true
-unfolding fresh_run reads_fresh step_of plain_step result_in meaning read_of write_of num_of bytes_of vars_of vars_from join_ids join_id has_id row_of inside any_below eq_z
+unfolding fresh_run reads_fresh step_of plain_step result_in meaning read_of write_of num_of bytes_of vars_of vars_from join_ids join_id has_id row_of inside any_below
 never_written = refl
 
 -- a temporary that an earlier instruction wrote
 written_earlier : fresh_run no_marks [] (copy t (Const 5 1) ∷ marker ∷ store (byte t) ∷ []) (rows 7) ≡ false
-unfolding fresh_run reads_fresh step_of plain_step result_in meaning read_of write_of num_of bytes_of vars_of vars_from join_ids join_id has_id row_of inside any_below eq_z
+unfolding fresh_run reads_fresh step_of plain_step result_in meaning read_of write_of num_of bytes_of vars_of vars_from join_ids join_id has_id row_of inside any_below
 written_earlier = refl
 
 -- there the second pass changes the run: the first statement goes, and the store sees the start's byte
@@ -101,33 +100,33 @@ abbrev stale_block : List Stmt
 stale_block = copy t (Const 5 1) ∷ marker ∷ store (byte t) ∷ []
 
 first_goes : eliminated no_marks stale_block ≡ marker ∷ store (byte t) ∷ []
-unfolding read_first overwritten read_next rewritten read_later judge dead_of without inside any_below eq_z has_id
+unfolding read_first overwritten read_next rewritten read_later judge dead_of without inside any_below has_id
 first_goes = refl
 
 stores_five : get_or (run_of [] stale_block (rows 7)) 1 (Ended []) ≡ Stored 0 0 5
-unfolding run_of run_from step_of plain_step result_in meaning read_of write_of num_of bytes_of vars_of vars_from join_ids join_id has_id row_of eq_z
+unfolding run_of run_from step_of plain_step result_in meaning read_of write_of num_of bytes_of vars_of vars_from join_ids join_id has_id row_of
 stores_five = refl
 
 stores_seven : get_or (run_of [] (marker ∷ store (byte t) ∷ []) (rows 7)) 1 (Ended []) ≡ Stored 0 0 7
-unfolding run_of run_from step_of plain_step result_in meaning read_of write_of num_of bytes_of vars_of vars_from join_ids join_id has_id row_of eq_z
+unfolding run_of run_from step_of plain_step result_in meaning read_of write_of num_of bytes_of vars_of vars_from join_ids join_id has_id row_of
 stores_seven = refl
 
 -- a branch over a marker breaks the first premise alone, and there too the first statement goes
 abbrev far_block : List Stmt
 far_block =
     copy t (Const 5 1) ∷ branch 1 ∷ marker ∷ label 1
-    ∷ stmt_of (Op.One Copy) (Out.Var (record { id = t; offset = 1; size = 1 })) (Const 0 1) None ∷ store (byte t) ∷ []
+    ∷ stmt_of (Op.One Copy) (Out.Some (record { id = t; offset = 1; size = 1 })) (Const 0 1) None ∷ store (byte t) ∷ []
 
 far_fresh : fresh_run no_marks [] far_block (rows 7) ≡ true
-unfolding fresh_run reads_fresh step_of plain_step result_in meaning read_of write_of num_of bytes_of vars_of vars_from join_ids join_id has_id row_of inside any_below eq_z
+unfolding fresh_run reads_fresh step_of plain_step result_in meaning read_of write_of num_of bytes_of vars_of vars_from join_ids join_id has_id row_of inside any_below
 far_fresh = refl
 
 far_stores_five : get_or (run_of [] far_block (rows 7)) 0 (Ended []) ≡ Stored 0 0 5
-unfolding run_of run_from step_of plain_step result_in meaning read_of write_of num_of bytes_of vars_of vars_from join_ids join_id has_id row_of eq_z
+unfolding run_of run_from step_of plain_step result_in meaning read_of write_of num_of bytes_of vars_of vars_from join_ids join_id has_id row_of
 far_stores_five = refl
 
 far_stores_seven : get_or (run_of [] (eliminated no_marks far_block) (rows 7)) 0 (Ended []) ≡ Stored 0 0 7
-unfolding run_of run_from step_of plain_step result_in meaning read_of write_of num_of bytes_of vars_of vars_from join_ids join_id has_id row_of eq_z read_first overwritten read_next rewritten read_later judge dead_of without inside any_below
+unfolding run_of run_from step_of plain_step result_in meaning read_of write_of num_of bytes_of vars_of vars_from join_ids join_id has_id row_of read_first overwritten read_next rewritten read_later judge dead_of without inside any_below
 far_stores_seven = refl
 
 -- the table of a block that is left has its rows in another order
@@ -135,5 +134,5 @@ abbrev pub dead_block : List Stmt
 dead_block = copy t (Const 5 1) ∷ copy v1 (Const 6 1) ∷ marker ∷ []
 
 dead_goes : eliminated no_marks dead_block ≡ copy v1 (Const 6 1) ∷ marker ∷ []
-unfolding read_first overwritten read_next rewritten read_later judge dead_of without inside any_below eq_z has_id
+unfolding read_first overwritten read_next rewritten read_later judge dead_of without inside any_below has_id
 dead_goes = refl

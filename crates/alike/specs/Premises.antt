@@ -15,8 +15,8 @@ use Rattle.live_tables.specs.Rows.{edge_of, is_marker}
 use Rattle.dead_store.specs.Stays.{writes}
 use Rattle.step.specs.Steps.{Machine, act_of, step_of}
 use Rattle.step.specs.declared.Act.{Act}
-use Rattle.step.specs.declared.Flow.{Flow}
-use Rattle.step.specs.declared.Flow.TheVariants.{Next, Jump}
+use Rattle.step.specs.Steps.{Flow}
+use Rattle.std.specs.Prelude.{None as Next, Some as Jump}
 use Rattle.run.specs.Run.{arrived, start_of}
 
 -- a label stands below with no marker between

@@ -1,11 +1,6 @@
 -- Codes and bits: a bit whose expression is small comes back from its code, and the operations keep bits small.
 -- Assumes nothing.
-use Prim.Native.Nat.{ℕ, ◌+◌, ◌*◌, ◌-◌, ◌/◌, ◌%◌, ◌<◌}
-use mathlib.Core.Path.{◌≡◌, ap, refl}
-use mathlib.Core.Bool.{Bool, true, false}
-use native.Mathlib.Omega.{arith}
-use borrow.Author.Tests.{eq-eqb, ne_eqb, le-ltb}
-use lib.Dec.{eqb, ltb}
+use Rattle.std.proofs.Common.{ℕ, ◌+◌, ◌*◌, ◌-◌, ◌/◌, ◌%◌, ◌<◌, ◌≡◌, ap, refl, Bool, true, false, arith, eq-eqb, ne_eqb, le-ltb, eqb, ltb}
 use Rattle.bit.specs.declared.Kin.{Kin}
 use Rattle.bit.specs.declared.Kin.TheVariants.{Same, Opposite, Unrelated}
 use Rattle.bit.specs.Bits.{code_e, code_of, bit_of, expr_of, one_if, pick, kin_of, by_kin, beside, zero_or_unknown, one_or_unknown, not_e, not_b, and_b, or_b, xor_b, eq_b}

@@ -1,9 +1,6 @@
 -- The laws of the operations, over all four cases. Assumes nothing.
-use Prim.Native.Nat.{ℕ}
-use mathlib.Core.Path.{◌≡◌, refl, sym, ◌∙◌, ap}
-use mathlib.Core.Bool.{Bool, true, false, not}
-use borrow.Author.Tests.{eq-eqb, ne_eqb, eqb-true, eqb-false}
-use lib.Dec.{eqb}
+use Rattle.std.proofs.Common.{ℕ, ◌≡◌, refl, sym, ◌∙◌, ap, Bool, true, false, not, eq-eqb, ne_eqb, eqb-true, eqb}
+use borrow.Author.Tests.{eqb-false}
 use Rattle.bit.specs.Bits.{kin_signs, kin_tests, kin_of, by_kin, not_e, not_b, and_b, or_b, xor_b, eq_b}
 use Rattle.bit.specs.declared.Expr.{Expr}
 use Rattle.bit.specs.declared.Kin.{Kin}

@@ -7,7 +7,7 @@ ghost use Rattle.bit.specs.Bits.{kin_of, by_kin, beside, not_e, not_b, and_b, or
 use pcode::var::OutputExprId;
 
 // Bit `offset` of what the expression `id` gave, or its inverse.
-#[derive(Clone, Copy)]
+#[derive(Clone, Copy, PartialEq, Eq)]
 pub struct Expr {
     pub id: OutputExprId,
     pub offset: u8,
@@ -22,7 +22,7 @@ pub enum Kin {
     Unrelated,
 }
 
-#[derive(Clone, Copy)]
+#[derive(Clone, Copy, PartialEq, Eq)]
 pub enum Bit {
     Zero,
     One,
@@ -34,24 +34,13 @@ impl Expr {
     pub fn kin(self, other: Expr) -> Kin
         ensures { result ≡ kin_of self other }
     {
-        let a = self.id;
-        let b = other.id;
-        if a.0 != b.0 {
-            return Kin::Unrelated;
+        if self == other {
+            Kin::Same
+        } else if self == other.not() {
+            Kin::Opposite
+        } else {
+            Kin::Unrelated
         }
-        if self.offset != other.offset {
-            return Kin::Unrelated;
-        }
-        if self.invert {
-            if other.invert {
-                return Kin::Same;
-            }
-            return Kin::Opposite;
-        }
-        if other.invert {
-            return Kin::Opposite;
-        }
-        Kin::Same
     }
 
     // What two expressions give: `same`, `opposite`, or unknown where they are unrelated.
@@ -68,11 +57,9 @@ impl Expr {
     pub fn not(self) -> Expr
         ensures { result ≡ not_e self }
     {
-        let id = self.id;
         Expr {
-            id: id,
-            offset: self.offset,
             invert: !self.invert,
+            ..self
         }
     }
 
@@ -81,8 +68,7 @@ impl Expr {
         ensures { result ≡ code_e self }
     {
         let id = self.id;
-        let even = 4 + 512 * (id.0 as u64) + 2 * (self.offset as u64);
-        if self.invert { even + 1 } else { even }
+        4 + 512 * u64::from(id.0) + 2 * u64::from(self.offset) + u64::from(self.invert)
     }
 }
 
@@ -99,6 +85,7 @@ impl Bit {
         }
     }
 
+    #[tactic(auto, unfolding(crate::specs::Bits::not_b))]
     pub fn not(self) -> Bit
         ensures { result ≡ not_b self }
     {
@@ -110,38 +97,27 @@ impl Bit {
         }
     }
 
+    #[tactic(auto, unfolding(crate::specs::Bits::and_b))]
     pub fn and(self, other: Bit) -> Bit
         ensures { result ≡ and_b self other }
     {
         match self {
             Bit::Zero => Bit::Zero,
             Bit::One => other,
-            Bit::Unknown => match other {
-                Bit::Zero => Bit::Zero,
-                Bit::One => Bit::Unknown,
-                Bit::Unknown => Bit::Unknown,
-                Bit::Expr(_) => Bit::Unknown,
-            },
+            Bit::Unknown if other == Bit::Zero => Bit::Zero,
+            Bit::Unknown => Bit::Unknown,
             Bit::Expr(a) => other.beside(a, Bit::Zero, self, self, Bit::Zero),
         }
     }
 
+    #[tactic(auto, using(crate::proofs::Laws::or_dual))]
     pub fn or(self, other: Bit) -> Bit
         ensures { result ≡ or_b self other }
     {
-        match self {
-            Bit::Zero => other,
-            Bit::One => Bit::One,
-            Bit::Unknown => match other {
-                Bit::Zero => Bit::Unknown,
-                Bit::One => Bit::One,
-                Bit::Unknown => Bit::Unknown,
-                Bit::Expr(_) => Bit::Unknown,
-            },
-            Bit::Expr(a) => other.beside(a, self, Bit::One, self, Bit::One),
-        }
+        self.not().and(other.not()).not()
     }
 
+    #[tactic(auto, unfolding(crate::specs::Bits::xor_b, crate::specs::Bits::not_b))]
     pub fn xor(self, other: Bit) -> Bit
         ensures { result ≡ xor_b self other }
     {
@@ -154,18 +130,15 @@ impl Bit {
     }
 
     // Whether two bits are equal, as a bit.
+    #[tactic(auto, using(crate::proofs::Laws::eq_not_xor))]
     pub fn is_eq(self, other: Bit) -> Bit
         ensures { result ≡ eq_b self other }
     {
-        match self {
-            Bit::Zero => other.not(),
-            Bit::One => other,
-            Bit::Unknown => Bit::Unknown,
-            Bit::Expr(a) => other.beside(a, self.not(), self, Bit::One, Bit::Zero),
-        }
+        self.xor(other).not()
     }
 
     // The number that stands for the bit.
+    #[tactic(auto, unfolding(crate::specs::Bits::code_of))]
     pub fn encode(self) -> u64
         ensures { result ≡ code_of self }
     {
@@ -178,22 +151,20 @@ impl Bit {
     }
 
     // The bit that a number stands for; each number stands for one.
+    #[tactic(auto, unfolding(crate::specs::Bits::bit_of))]
     pub fn decode(n: u64) -> Bit
         ensures { result ≡ bit_of n }
     {
-        if n == 0 {
-            return Bit::Zero;
-        }
-        if n == 1 {
-            return Bit::One;
-        }
-        if n < 4 {
-            return Bit::Unknown;
+        match n {
+            0 => return Bit::Zero,
+            1 => return Bit::One,
+            2 | 3 => return Bit::Unknown,
+            _ => {}
         }
         let m = n - 4;
         let id = OutputExprId((m / 512 % 4294967296) as u32);
         Bit::Expr(Expr {
-            id: id,
+            id,
             offset: (m / 2 % 256) as u8,
             invert: m % 2 == 1,
         })

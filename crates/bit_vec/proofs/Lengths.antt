@@ -1,20 +1,11 @@
 -- How long each result is, for those who cite the definitions. Assumes nothing.
-use Prim.Native.Nat.{ℕ, zero, suc, ◌-◌, ◌≤◌, ◌<◌}
-use mathlib.Core.Path.{◌≡◌, refl, ◌∙◌, ap}
-use mathlib.Core.Bool.{Bool, true, false}
-use mathlib.Core.List.{List, [], ◌∷◌}
-use native.Mathlib.Omega.{arith}
-use borrow.Author.Tests.{leb-false}
-use lib.Dec.{leb}
-use lib.ListN.{length, take, drop, replicate, length-append, length-replicate, length-drop}
-use lib.Seq.{length-take-le}
+use Rattle.std.proofs.Common.{ℕ, zero, suc, ◌-◌, ◌≤◌, ◌<◌, ◌≡◌, refl, ◌∙◌, ap, Bool, true, false, List, [], ◌∷◌, arith, leb-false, leb, length, take, drop, replicate, length-append, length-drop, length-take-le, Option, Some, None}
+use lib.ListN.{length-replicate}
 use Rattle.bit.specs.Bits.{pick}
 use Rattle.bit.specs.declared.Bit.{Bit}
 use Rattle.bit.specs.declared.Bit.TheVariants.{Zero}
 use Rattle.bit_vec.specs.declared.ripple.Ripple.{Ripple}
 use Rattle.bit_vec.specs.declared.ripple.Place.{Place}
-use Rattle.bit_vec.specs.declared.known.Constant.{Constant}
-use Rattle.bit_vec.specs.declared.known.Constant.TheVariants.{Known, Open}
 use Rattle.bit_vec.specs.Lists.{scan, scanned, carry_b, place_step, ripple_carry, last_place}
 use Rattle.bit_vec.specs.Moves.{up, down, rotate_left, truth}
 use Rattle.bit_vec.specs.Known.{const_of, least, shift_by, shift_of}
@@ -39,9 +30,9 @@ length_rotate s xs h = length-append (drop s xs) (take s xs) ∙ rw (length-drop
 
 -- a shift by an amount, of a move that keeps the length
 module _ {A : Type 0} (move : ℕ → List A → List A) (z u : A) (keeps : (k : ℕ) (xs : List A) → k ≤ length xs → length (move k xs) ≡ length xs) where
-  by : (xs : List A) (c : Constant) (m : ℕ) → ((k : ℕ) → c ≡ Known k → k ≡ m) → m < length xs → length (shift_by move u c m xs) ≡ length xs
-  by xs (Known k) m e h = keeps k xs (omega (arith, e k refl))
-  by xs Open m e h = keeps m (replicate (length xs) u) (rw (length-replicate (length xs) u) (omega arith)) ∙ length-replicate (length xs) u
+  by : (xs : List A) (c : Option ℕ) (m : ℕ) → ((k : ℕ) → c ≡ Some k → k ≡ m) → m < length xs → length (shift_by move u c m xs) ≡ length xs
+  by xs (Some k) m e h = keeps k xs (omega (arith, e k refl))
+  by xs None m e h = keeps m (replicate (length xs) u) (rw (length-replicate (length xs) u) (omega arith)) ∙ length-replicate (length xs) u
 
   pub length_shift : (xs : List A) (sh : List Bit) → length (shift_of move z u xs sh) ≡ length xs
   length_shift xs sh = go (leb (length xs) (least sh)) refl

@@ -1,10 +1,8 @@
 -- Laws of moves: cutting and extending, the sign, truth values, digits. Assumes nothing.
-use Prim.Native.Nat.{ℕ, zero, suc, ◌+◌, ◌-◌, ◌/◌, ◌^◌, ◌≤◌, ◌<◌}
-use mathlib.Core.Path.{◌≡◌, refl, sym, ◌∙◌, ap}
-use mathlib.Core.List.{List, [], ◌∷◌, ◌++◌, map}
-use native.Mathlib.Omega.{arith}
-use lib.ListN.{length, take, get_or, set, replicate, length-map}
-use lib.Pow.{shr-shr}
+use Rattle.std.proofs.Common.{ℕ, zero, suc, ◌+◌, ◌-◌, ◌/◌, ◌^◌, ◌≤◌, ◌<◌, min, ◌≡◌, refl, sym, ◌∙◌, ap, subst, List, [], ◌∷◌, ◌++◌, map, arith, length, take, get_or, set, replicate, shr-shr}
+use Rattle.std.specs.Option.{unwrap_or}
+use Rattle.std.specs.List.{slice_get}
+use lib.ListN.{length-map}
 use Rattle.bit.specs.Bits.{code_of, bit_of, not_b}
 use Rattle.bit.specs.declared.Bit.{Bit}
 use Rattle.bit.specs.declared.Bit.TheVariants.{Zero}
@@ -17,13 +15,6 @@ length_fit z zero xs = refl
 length_fit z (suc n) [] = ap suc (length_fit z n [])
 length_fit z (suc n) (x ∷ xs) = ap suc (length_fit z n xs)
 
-pub fit_at : (z n : ℕ) (xs : List ℕ) (i : ℕ) → i < n → get_or xs i z ≡ get_or (fit z n xs) i 0
-fit_at z zero xs i h = absurd (omega (arith, h))
-fit_at z (suc n) [] zero h = refl
-fit_at z (suc n) [] (suc i) h = fit_at z n [] i (omega arith)
-fit_at z (suc n) (x ∷ xs) zero h = refl
-fit_at z (suc n) (x ∷ xs) (suc i) h = fit_at z n xs i (omega arith)
-
 -- inside, what would stand past the end does not matter
 pub get_d_in : (s : List ℕ) (i d : ℕ) → i < length s → get_or s i 0 ≡ get_or s i d
 get_d_in [] i d h = absurd (omega (arith, h))
@@ -31,23 +22,14 @@ get_d_in (x ∷ s) zero d h = refl
 get_d_in (x ∷ s) (suc i) d h = get_d_in s i d (omega arith)
 
 -- the sign is the last element
-pub last_at : (z : ℕ) (xs : List ℕ) → 0 < length xs → get_or xs (length xs - 1) z ≡ last_of z xs
-last_at z [] h = absurd (omega (arith, h))
-last_at z (x ∷ []) h = refl
-last_at z (x ∷ (y ∷ ys)) h =
+pub last_got : (z : ℕ) (xs : List ℕ) → unwrap_or (slice_get xs (length xs - 1)) z ≡ last_of z xs
+last_got z [] = refl
+last_got z (x ∷ []) = refl
+last_got z (x ∷ (y ∷ ys)) =
     let q : suc (suc (length ys)) - 1 ≡ suc (suc (length ys) - 1) = omega arith in
-    let w : suc (length ys) - 1 < length (y ∷ ys) = omega arith in
-    rw q (sym (get_d_in (y ∷ ys) (suc (length ys) - 1) z w) ∙ get_d_in (y ∷ ys) (suc (length ys) - 1) x w ∙ last_at x (y ∷ ys) (omega arith))
-
-pub last_none : (z : ℕ) (xs : List ℕ) → length xs ≤ 0 → z ≡ last_of z xs
-last_none z [] h = refl
-last_none z (x ∷ xs) h = absurd (omega (arith, h))
+    rw q (last_got z (y ∷ ys))
 
 -- a truth value
-pub truth_none : (n : ℕ) (b : Bit) (old : List ℕ) → old ≡ replicate n (code_of Zero) → length old ≡ 0 → old ≡ codes (truth n b)
-truth_none zero b old e h = e
-truth_none (suc n) b old e h = absurd (omega (arith, h, ap length e))
-
 codes_zero : (n : ℕ) → replicate n (code_of Zero) ≡ codes (replicate n Zero)
 codes_zero zero = refl
 codes_zero (suc n) = ap (λ (l : List ℕ). code_of Zero ∷ l) (codes_zero n)
@@ -113,3 +95,19 @@ fit_extend z k [] = ap (λ (n : ℕ). fit z n []) (let q : 0 + k ≡ k = omega a
 fit_extend {A} z k (x ∷ xs) =
     ap (λ (n : ℕ). fit z n (x ∷ xs)) (let q : suc (length xs) + k ≡ suc (length xs + k) = omega arith in q)
     ∙ ap {B = List A} (λ (l : List A). x ∷ l) (fit_extend z k xs)
+
+-- a copy of what fits, and z in the places above
+pub fit_parts : {A : Type 0} (z : A) (n : ℕ) (xs : List A) (k : ℕ) → k ≡ min n (length xs) → take k xs ++ replicate (n - k) z ≡ fit z n xs
+fit_parts z zero xs k e =
+    let q : k ≡ 0 = omega arith in
+    rw q
+fit_parts z (suc n) [] k e =
+    let q : k ≡ 0 = omega arith in
+    let r : suc n - k ≡ suc n = omega arith in
+    rw (r, q) (sym (fit_nil z (suc n)))
+fit_parts {A} z (suc n) (x ∷ xs) k e =
+    let q : k ≡ suc (k - 1) = omega arith in
+    let r : suc n - suc (k - 1) ≡ n - (k - 1) = omega arith in
+    let h : take (k - 1) xs ++ replicate (n - (k - 1)) z ≡ fit z n xs = fit_parts z n xs (k - 1) (omega arith) in
+    subst (λ (j : ℕ). take j (x ∷ xs) ++ replicate (suc n - j) z ≡ fit z (suc n) (x ∷ xs)) (sym q)
+    (ap (λ (j : ℕ). (x ∷ take (k - 1) xs) ++ replicate j z) r ∙ ap {B = List A} (λ (l : List A). x ∷ l) h)

@@ -1,12 +1,6 @@
 -- The loops over a slice from the lowest place up: what is stored so far, and what is to come, make the whole. Assumes nothing.
-use Prim.Native.Nat.{ℕ, suc, ◌+◌, ◌≤◌, ◌<◌}
-use mathlib.Core.Path.{◌≡◌, refl, sym, ◌∙◌, ap}
-use mathlib.Core.List.{List, [], ◌∷◌, ◌++◌, append_assoc, append-nil}
-use native.Mathlib.Numerals.{add-one}
-use native.Mathlib.Omega.{arith}
-use lib.ListN.{length, take, drop, get_or, set, length-set, drop_of_length-le}
-use lib.Seq.{take-suc-set, drop-set-lt, drop-cons, take_all}
-use Rattle.bit.specs.Bits.{code_of, bit_of}
+use Rattle.std.proofs.Common.{ℕ, suc, ◌+◌, ◌≤◌, ◌<◌, ◌≡◌, refl, sym, ◌∙◌, ap, List, [], ◌∷◌, ◌++◌, append_assoc, append-nil, add-one, arith, length, take, drop, get_or, set, length-set, drop_of_length-le, take-suc-set, drop-set-lt, drop-cons, take_all}
+use Rattle.bit.specs.Bits.{bit_of}
 use Rattle.bit.specs.declared.Bit.{Bit}
 use Rattle.bit_vec.specs.Lists.{bits, codes, scan, scanned}
 
@@ -69,28 +63,3 @@ module _ {S : Type 0} (f : S → Bit → Bit → Bit) (g : S → Bit → Bit →
   pub record Walked (s₀ : S) (out₀ b : List ℕ) (s : S) (out : List ℕ) (i : ℕ) : Type 0 where
     pub stored : Stored out₀ (to_come s₀ out₀ b 0) (to_come s out₀ b i) out i
     pub state : scanned g s (bits (drop i out₀)) (bits (drop i b)) ≡ scanned g s₀ (bits out₀) (bits b)
-
-  pub walk_begin : (s : S) (out b : List ℕ) → Walked s out b s out 0
-  walk_begin s out b = record { stored = begin out _; state = refl }
-
-  pub walk_turn : (s₀ : S) (out₀ b : List ℕ) (s : S) (out : List ℕ) (i v : ℕ) (t : S) → Walked s₀ out₀ b s out i → length out₀ ≡ length b
-      → i < length out → v ≡ code_of (f s (bit_of (get_or out i 0)) (bit_of (get_or b i 0))) → t ≡ g s (bit_of (get_or out i 0)) (bit_of (get_or b i 0))
-      → Walked s₀ out₀ b t (set out i v) (i + 1)
-  walk_turn s₀ out₀ b s out i v t w e h hv ht =
-      let x : get_or out i 0 ≡ get_or out₀ i 0 = here _ _ _ out i w.stored h in
-      let ha : i < length out₀ = omega (arith, w.stored.long) in
-      let tv : t ≡ g s (bit_of (get_or out₀ i 0)) (bit_of (get_or b i 0)) = rw x at ht in
-      let vv : v ≡ code_of (f s (bit_of (get_or out₀ i 0)) (bit_of (get_or b i 0))) = rw x at hv in
-      record {
-        stored =
-            turn _ _ _ _ out i v w.stored h
-            (rw (drop-cons out₀ i 0 ha, drop-cons b i 0 (omega arith), add-one i, vv, tv));
-        state = rw tv (walk g s out₀ b i ha e ∙ w.state);
-      }
-
-  pub walk_done : (s₀ : S) (out₀ b : List ℕ) (s : S) (out : List ℕ) (i : ℕ) → Walked s₀ out₀ b s out i → length out ≤ i
-      → (out ≡ codes (scan f g s₀ (bits out₀) (bits b))) × (s ≡ scanned g s₀ (bits out₀) (bits b))
-  walk_done s₀ out₀ b s out i w h =
-      let l : length out₀ ≤ i = omega (arith, w.stored.long) in
-      let e : drop i out₀ ≡ [] = drop_of_length-le out₀ l in
-      (finish _ _ _ out i w.stored h (rw e), rw e at w.state)

@@ -1,5 +1,5 @@
 -- Bit vectors as lists, lowest bit first: logic, equality, sums and differences, in 01's words.
-use Rattle.std.specs.Prelude.{ℕ, zero, suc, List, [], ◌∷◌, map}
+use Rattle.std.specs.Prelude.{ℕ, Option, Some, None, zero, suc, List, [], ◌∷◌, map}
 use Rattle.bit.specs.Bits.{not_b, and_b, or_b, xor_b, eq_b, code_of, bit_of}
 use Rattle.bit.specs.declared.Bit.{Bit}
 use Rattle.bit.specs.declared.Bit.TheVariants.{Zero, One, Unknown, Expr as Sym}
@@ -89,12 +89,12 @@ overflow_sub x y c = and_b (xor_b x y) (xor_b c x)
 abbrev pub sub_overflow : List Bit → List Bit → Bit
 sub_overflow xs ys = overflow_sub (last_of Zero xs) (last_of Zero ys) (last_place Sub xs ys).digit
 
--- 0 for zero, 1 for one, 2 for a bit that is not decided
-abbrev pub value_of : Bit → ℕ
-value_of Zero = 0
-value_of One = 1
-value_of Unknown = 2
-value_of (Sym e) = 2
+-- 0 for zero, 1 for one, nothing for a bit that is not decided
+abbrev pub value_of : Bit → Option ℕ
+value_of Zero = Some 0
+value_of One = Some 1
+value_of Unknown = None
+value_of (Sym e) = None
 
 -- after the last place of a comparison: none undecided, one; one undecided, that place's bit; two or more, unknown
 abbrev pub eq_done : ℕ → Bit → Bit

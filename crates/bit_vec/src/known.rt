@@ -6,30 +6,21 @@ ghost use Rattle.bit_vec.specs.Known.{const_of, least, count_ones, leading_zeros
 use crate::logic::value;
 use bit::Bit;
 
-#[derive(Clone, Copy)]
-pub enum Constant {
-    Known(u64),
-    Open,
-}
+// Each count is a loop of its own: a fold by a closure would have to be told a bound on the count before each call.
 
 // The number that the bits are, where every one is known and there are at most 64.
-pub fn get_const(s: &[u64]) -> Constant
+pub fn get_const(s: &[u64]) -> Option<u64>
     ensures { result ≡ const_of (bits s.now) }
 {
     if 64 < s.len() {
-        return Constant::Open;
+        return None;
     }
     let mut n: u64 = 0;
-    let mut i = s.len();
-    while 0 < i {
-        i -= 1;
-        let v = value(Bit::decode(s[i]));
-        if v == 2 {
-            return Constant::Open;
-        }
+    for c in s.iter().rev() {
+        let v = value(Bit::decode(*c))?;
         n = 2 * n + v;
     }
-    Constant::Known(n)
+    Some(n)
 }
 
 // The least number that the bits can be, modulo 2^64.
@@ -37,63 +28,48 @@ pub fn min(s: &[u64]) -> u64
     ensures { result ≡ least (bits s.now) }
 {
     let mut n: u64 = 0;
-    let mut i = s.len();
-    while 0 < i {
-        i -= 1;
-        let v = value(Bit::decode(s[i]));
-        n = n % 9223372036854775808 * 2 + v % 2;
+    for c in s.iter().rev() {
+        let v = value(Bit::decode(*c)).unwrap_or(0);
+        n = n % 9223372036854775808 * 2 + v;
     }
     n
 }
 
 // How many bits are one, where every one is known.
-pub fn count_ones(s: &[u64]) -> Constant
+pub fn count_ones(s: &[u64]) -> Option<u64>
     ensures { result ≡ count_ones (bits s.now) }
 {
     let mut n: u64 = 0;
-    let mut i = s.len();
-    while 0 < i {
-        i -= 1;
-        let v = value(Bit::decode(s[i]));
-        if v == 2 {
-            return Constant::Open;
-        }
+    for c in s.iter().rev() {
+        let v = value(Bit::decode(*c))?;
         n += v;
     }
-    Constant::Known(n)
+    Some(n)
 }
 
 // How many bits above the highest one are zero, where they and it are known; all of them where each is zero.
-pub fn count_leading_zeros(s: &[u64]) -> Constant
+pub fn count_leading_zeros(s: &[u64]) -> Option<u64>
     ensures { result ≡ leading_zeros (bits s.now) }
 {
     let mut n: u64 = 0;
-    let mut i = s.len();
-    while 0 < i {
-        i -= 1;
-        let v = value(Bit::decode(s[i]));
-        if v == 2 {
-            return Constant::Open;
-        }
+    for c in s.iter().rev() {
+        let v = value(Bit::decode(*c))?;
         if v == 1 {
-            return Constant::Known(n);
+            return Some(n);
         }
         n += 1;
     }
-    Constant::Known(n)
+    Some(n)
 }
 
 // How many of the lowest bits are known to be zero.
 pub fn known_trailing_zeros(s: &[u64]) -> usize
     ensures { result ≡ trailing_zeros (bits s.now) }
 {
-    let mut i = 0;
-    while i < s.len() {
-        let v = value(Bit::decode(s[i]));
-        if v != 0 {
+    for (i, c) in s.iter().enumerate() {
+        if Bit::decode(*c) != Bit::Zero {
             return i;
         }
-        i += 1;
     }
-    i
+    s.len()
 }

@@ -24,18 +24,14 @@ impl Logic {
     }
 }
 
-// And, or, exclusive or with `other`, in place.
+// And, or, exclusive or with `other`, in place. By a place's number: in a loop over `out.iter_mut().zip(other)` a proof does not see `out`.
 pub fn bitwise(out: &mut [u64], other: &[u64], op: Logic)
     requires { length out.old ≡ length other.now }
     ensures { out.new ≡ codes (zip_bits (logic_b op) (bits out.old) (bits other.now)) }
 {
-    let mut i = 0;
-    while i < out.len() {
-        let x = Bit::decode(out[i]);
-        let y = Bit::decode(other[i]);
-        let z = op.apply(x, y);
-        out[i] = z.encode();
-        i += 1;
+    for (i, x) in out.iter_mut().enumerate() {
+        let z = op.apply(Bit::decode(*x), Bit::decode(other[i]));
+        *x = z.encode();
     }
 }
 
@@ -43,23 +39,20 @@ pub fn bitwise(out: &mut [u64], other: &[u64], op: Logic)
 pub fn not(out: &mut [u64])
     ensures { out.new ≡ codes (map not_b (bits out.old)) }
 {
-    let mut i = 0;
-    while i < out.len() {
-        let x = Bit::decode(out[i]);
-        out[i] = x.not().encode();
-        i += 1;
+    for x in out.iter_mut() {
+        let b = Bit::decode(*x);
+        *x = b.not().encode();
     }
 }
 
-// 0 for zero, 1 for one, 2 for a bit that is not decided.
-pub fn value(b: Bit) -> u64
+// 0 for zero, 1 for one, nothing for a bit that is not decided.
+pub fn value(b: Bit) -> Option<u64>
     ensures { result ≡ value_of b }
 {
     match b {
-        Bit::Zero => 0,
-        Bit::One => 1,
-        Bit::Unknown => 2,
-        Bit::Expr(_) => 2,
+        Bit::Zero => Some(0),
+        Bit::One => Some(1),
+        Bit::Unknown | Bit::Expr(_) => None,
     }
 }
 
@@ -70,23 +63,15 @@ pub fn is_eq(a: &[u64], b: &[u64]) -> Bit
 {
     let mut undecided: usize = 0;
     let mut last = Bit::One;
-    let mut i = 0;
-    while i < a.len() {
-        let x = Bit::decode(a[i]);
-        let y = Bit::decode(b[i]);
-        let e = x.is_eq(y);
-        let v = value(e);
-        if v == 0 {
-            return Bit::Zero;
+    for (x, y) in a.iter().zip(b) {
+        match Bit::decode(*x).is_eq(Bit::decode(*y)) {
+            Bit::Zero => return Bit::Zero,
+            Bit::One => {}
+            e => {
+                undecided += 1;
+                last = e;
+            }
         }
-        if v == 2 {
-            undecided += 1;
-            last = e;
-        }
-        i += 1;
     }
-    if undecided <= 1 {
-        return last;
-    }
-    Bit::Unknown
+    if undecided <= 1 { last } else { Bit::Unknown }
 }

@@ -10,52 +10,39 @@ use bit::Bit;
 pub fn repeat(out: &mut [u64], code: u64)
     ensures { out.new ≡ replicate (length out.old) code }
 {
-    let mut i = 0;
-    while i < out.len() {
-        out[i] = code;
-        i += 1;
-    }
+    out.fill(code);
 }
 
 // One bit at every place.
 pub fn fill(out: &mut [u64], bit: Bit)
     ensures { out.new ≡ replicate (length out.old) (code_of bit) }
 {
-    let code = bit.encode();
-    repeat(out, code);
+    out.fill(bit.encode());
 }
 
 // What stands at place i, or `past` beyond the end.
 pub fn at(s: &[u64], i: usize, past: u64) -> u64
     ensures { result ≡ get_or s.now i past }
 {
-    if i < s.len() {
-        return s[i];
-    }
-    past
+    s.get(i).copied().unwrap_or(past)
 }
 
 // A copy, cut where `other` is longer, with `high` in the places above where it is shorter.
 pub fn copy_any(out: &mut [u64], other: &[u64], high: u64)
     ensures { out.new ≡ fit high (length out.old) other.now }
 {
-    let mut i = 0;
-    while i < out.len() {
-        out[i] = at(other, i, high);
-        i += 1;
-    }
+    let n = out.len().min(other.len());
+    out[..n].copy_from_slice(&other[..n]);
+    repeat(&mut out[n..], high);
 }
 
 // The highest bit's code; zero's where there is no bit.
+#[tactic(auto, using(crate::proofs::Moved::last_got))]
 pub fn sign(s: &[u64]) -> u64
     ensures { result ≡ last_of (code_of Bit.Zero) s.now }
 {
     let zero = Bit::Zero.encode();
-    let n = s.len();
-    if 0 < n {
-        return at(s, n - 1, zero);
-    }
-    zero
+    s.last().copied().unwrap_or(zero)
 }
 
 // A truth value: bit 0, the rest zero.
@@ -63,10 +50,9 @@ pub fn set_bool(out: &mut [u64], bit: Bit)
     ensures { out.new ≡ codes (truth (length out.old) bit) }
 {
     fill(out, Bit::Zero);
-    if out.len() == 0 {
-        return;
+    if let Some(lowest) = out.first_mut() {
+        *lowest = bit.encode();
     }
-    out[0] = bit.encode();
 }
 
 // The bit of an odd or an even number.
@@ -81,11 +67,8 @@ pub fn set_const(out: &mut [u64], value: u64)
     ensures { out.new ≡ codes (digits (length out.old) value) }
 {
     let mut rest = value;
-    let mut i = 0;
-    while i < out.len() {
-        let b = lowest(rest);
-        out[i] = b.encode();
+    for x in out.iter_mut() {
+        *x = lowest(rest).encode();
         rest /= 2;
-        i += 1;
     }
 }

@@ -59,35 +59,28 @@ pub fn ripple_in(out: &mut [u64], other: &[u64], op: Ripple) -> Bit
     ensures { (out.new ≡ codes (ripple_bits op (bits out.old) (bits other.now))) × (result ≡ ripple_carry op (bits out.old) (bits other.now)) }
 {
     let mut p = Place::start();
-    let mut i = 0;
-    while i < out.len() {
-        let x = Bit::decode(out[i]);
-        let y = Bit::decode(other[i]);
-        p = p.step(op, x, y);
+    for (i, x) in out.iter_mut().enumerate() {
+        p = p.step(op, Bit::decode(*x), Bit::decode(other[i]));
         let d = p.digit;
-        out[i] = d.encode();
-        i += 1;
+        *x = d.encode();
     }
     p.carry
 }
 
-// The last place of a sum or a difference, with nothing written.
+// The last place of a sum or a difference: the walk of `ripple_in`, with no slice to write to.
 pub fn last_place(a: &[u64], b: &[u64], op: Ripple) -> Place
     requires { length a.now ≡ length b.now }
     ensures { result ≡ last_place op (bits a.now) (bits b.now) }
 {
     let mut p = Place::start();
-    let mut i = 0;
-    while i < a.len() {
-        let x = Bit::decode(a[i]);
-        let y = Bit::decode(b[i]);
-        p = p.step(op, x, y);
-        i += 1;
+    for (x, y) in a.iter().zip(b) {
+        p = p.step(op, Bit::decode(*x), Bit::decode(*y));
     }
     p
 }
 
 // Whether a signed sum overflows: the operands' signs agree, and the sum's is another.
+#[tactic(auto, using(crate::proofs::Moved::sign_bit))]
 pub fn add_overflow(a: &[u64], b: &[u64]) -> Bit
     requires { length a.now ≡ length b.now }
     ensures { result ≡ add_overflow (bits a.now) (bits b.now) }
@@ -102,6 +95,7 @@ pub fn add_overflow(a: &[u64], b: &[u64]) -> Bit
 }
 
 // Whether a signed difference overflows: the operands' signs differ, and the difference's is not the first's.
+#[tactic(auto, using(crate::proofs::Moved::sign_bit))]
 pub fn sub_overflow(a: &[u64], b: &[u64]) -> Bit
     requires { length a.now ≡ length b.now }
     ensures { result ≡ sub_overflow (bits a.now) (bits b.now) }

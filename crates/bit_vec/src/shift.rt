@@ -5,7 +5,7 @@ ghost use Rattle.bit_vec.specs.Lists.{bits};
 ghost use Rattle.bit_vec.specs.Moves.{last_of, up, down, rotate_left, rotate_right};
 ghost use Rattle.bit_vec.specs.Known.{left_of, right_of};
 
-use crate::known::{Constant, get_const, min};
+use crate::known::{get_const, min};
 use crate::moves::{copy_any, fill, repeat, sign};
 use bit::Bit;
 
@@ -57,8 +57,8 @@ pub fn shift_left(out: &mut [u64], a: &[u64], shift: &[u64])
         return;
     }
     match get_const(shift) {
-        Constant::Known(k) => shift_up(out, a, k as usize),
-        Constant::Open => unknown_above(out, m),
+        Some(k) => shift_up(out, a, k as usize),
+        None => unknown_above(out, m),
     }
 }
 
@@ -73,8 +73,8 @@ pub fn shift_right(out: &mut [u64], a: &[u64], shift: &[u64], high: u64)
         return;
     }
     match get_const(shift) {
-        Constant::Known(k) => shift_down(out, a, k as usize, high),
-        Constant::Open => unknown_below(out, m, high),
+        Some(k) => shift_down(out, a, k as usize, high),
+        None => unknown_below(out, m, high),
     }
 }
 
@@ -92,9 +92,8 @@ pub fn rotate_left(out: &mut [u64], a: &[u64], s: usize)
     requires { (length a.now ≡ length out.old) × (s ≤ length out.old) }
     ensures { out.new ≡ rotate_left s a.now }
 {
-    let n = out.len() - s;
-    copy_any(&mut out[n..], a, 0);
-    copy_any(&mut out[..n], &a[s..], 0);
+    out.copy_from_slice(a);
+    out.rotate_left(s);
 }
 
 // Bit i of `a` at place (i + s) modulo the width.
@@ -102,6 +101,5 @@ pub fn rotate_right(out: &mut [u64], a: &[u64], s: usize)
     requires { (length a.now ≡ length out.old) × (s ≤ length out.old) }
     ensures { out.new ≡ rotate_right s a.now }
 {
-    let n = out.len() - s;
-    rotate_left(out, a, n);
+    rotate_left(out, a, out.len() - s);
 }

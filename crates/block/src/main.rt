@@ -10,7 +10,6 @@ ghost use Rattle.front.specs.declared.Pass.TheVariants.{Both};
 
 use front::{Pass, treat};
 use input::fill;
-use print::print::Printed;
 use std::io;
 use std::io::{Read, Write};
 
@@ -33,11 +32,7 @@ fn answer(input: &[u8], out: &mut [u8]) -> usize
     requires { block_room ≤ length out.old }
     ensures { (result ≡ length (answer_of Both input.now).text) × (out.new ≡ written out.old 0 (answer_of Both input.now).text) }
 {
-    let p = treat(Pass::Both, input, out);
-    match p {
-        Printed::NoRoom => 0,
-        Printed::Written(n) => n,
-    }
+    treat(Pass::Both, input, out).unwrap_or(0)
 }
 
 // The first `n` bytes of the page.

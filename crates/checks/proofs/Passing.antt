@@ -1,4 +1,5 @@
 -- What is known of a block that passes the checks.
+use Rattle.std.proofs.Common.{Result, Ok, Err}
 use Prim.Native.Nat.{ℕ, zero, suc, ◌+◌, ◌<◌, ◌≤◌}
 use native.Mathlib.Omega.{arith}
 use native.Mathlib.Nat.{le_of_suc-le-suc, not-suc-le-zero}
@@ -17,8 +18,6 @@ use Rattle.pcode.specs.declared.block.Limits.{Limits}
 use Rattle.pcode.specs.declared.refusal.Refusal.{Refusal}
 use Rattle.vars.specs.Vars.{ids_of, join_ids, vars_from, vars_of, over_from, too_many, cap_of}
 use Rattle.text.specs.Reading.{room_of}
-use Rattle.text.specs.declared.answer.Answer.{Answer}
-use Rattle.text.specs.declared.answer.Answer.TheVariants.{Ok, Refused}
 use Rattle.checks.specs.Statements.{good_parts, met_needs, good_sizes, stmt_check, else_then, checks_from}
 use Rattle.checks.specs.Labels.{labels_from}
 use Rattle.checks.specs.Checks.{variables, check_of}
@@ -36,31 +35,31 @@ within m l [] h g = h
 within m l (s ∷ ss) h g = step m (join_ids l (ids_of s)) ss (ltb m (length (join_ids l (ids_of s)))) refl g (within m (join_ids l (ids_of s)) ss)
 
 -- an answer that is no refusal
-code : Answer → Bool
-code Ok = true
-code (Refused why) = false
+code : Result (Unit {0}) Refusal → Bool
+code (Ok u) = true
+code (Err why) = false
 
-pub never : {why : Refusal} → Refused why ≡ Ok → ⊥
+pub never : {why : Refusal} → ◌≡◌ {A = Result (Unit {0}) Refusal} (Err why) (Ok tt) → ⊥
 unfolding code
 never e = true≢false (sym (ap code e))
 
-pub first_ok : (t : Bool) (why : Refusal) (next : Answer) → pick t (Refused why) next ≡ Ok → (t ≡ false) × (next ≡ Ok)
+pub first_ok : (t : Bool) (why : Refusal) (next : Result (Unit {0}) Refusal) → pick t (Err why) next ≡ Ok tt → (t ≡ false) × (next ≡ Ok tt)
 first_ok true why next e = absurd (never e)
 first_ok false why next e = (refl, e)
 
-pub then_ok : (t : Bool) (why : Refusal) (next : Answer) → pick t next (Refused why) ≡ Ok → (t ≡ true) × (next ≡ Ok)
+pub then_ok : (t : Bool) (why : Refusal) (next : Result (Unit {0}) Refusal) → pick t next (Err why) ≡ Ok tt → (t ≡ true) × (next ≡ Ok tt)
 then_ok true why next e = (refl, e)
 then_ok false why next e = absurd (never e)
 
-pub both_ok : (a next : Answer) → else_then a next ≡ Ok → (a ≡ Ok) × (next ≡ Ok)
-both_ok Ok next e = (refl, e)
-both_ok (Refused why) next e = absurd (never e)
+pub both_ok : (a next : Result (Unit {0}) Refusal) → else_then a next ≡ Ok tt → (a ≡ Ok tt) × (next ≡ Ok tt)
+both_ok (Ok tt) next e = (refl, e)
+both_ok (Err why) next e = absurd (never e)
 
-pub last_ok : (t : Bool) (why : Refusal) → pick t (Refused why) Ok ≡ Ok → t ≡ false
-last_ok t why e = (first_ok t why Ok e).0
+pub last_ok : (t : Bool) (why : Refusal) → ◌≡◌ {A = Result (Unit {0}) Refusal} (pick t (Err why) (Ok tt)) (Ok tt) → t ≡ false
+last_ok t why e = (first_ok t why (Ok tt) e).0
 
 -- statements that 7 does not meet
-few : (most : ℕ) (ss : List Stmt) → variables most ss ≡ Ok → length (vars_of ss) ≤ cap_of most
+few : (most : ℕ) (ss : List Stmt) → variables most ss ≡ Ok tt → length (vars_of ss) ≤ cap_of most
 unfolding variables vars_of
 few most ss e = within (cap_of most) [] ss (omega arith) (ltb-false (too_many (cap_of most) ss) (length ss) (last_ok _ _ e))
 
@@ -70,7 +69,7 @@ pub record Good (s : Stmt) : Type 0 where
   pub needs : met_needs s ≡ true
   pub sizes : good_sizes s ≡ true
 
-pub good : (i : ℕ) (s : Stmt) → stmt_check i s ≡ Ok → Good s
+pub good : (i : ℕ) (s : Stmt) → stmt_check i s ≡ Ok tt → Good s
 unfolding stmt_check
 good i s e =
     let x = then_ok (good_parts s) _ _ e in
@@ -78,7 +77,7 @@ good i s e =
     let z = then_ok (good_sizes s) _ _ y.1 in
     record { parts = x.0; needs = y.0; sizes = z.0 }
 
-pub every : (k : ℕ) (ss : List Stmt) → checks_from k ss ≡ Ok → (i : ℕ) → i < length ss → Good (get_or ss i blank_stmt)
+pub every : (k : ℕ) (ss : List Stmt) → checks_from k ss ≡ Ok tt → (i : ℕ) → i < length ss → Good (get_or ss i blank_stmt)
 unfolding checks_from
 every k [] e i h = absurd (omega arith)
 every k (s ∷ ss) e zero h = good k s (both_ok (stmt_check k s) (checks_from (k + 1) ss) e).0
@@ -89,11 +88,11 @@ pub record Passing (limits : Limits) (b : Block) : Type 0 where
   pub stmts : b.count ≤ room_of limits.stmts
   pub short : length (held b) ≤ room_of limits.stmts
   pub vars : length (vars_of (held b)) ≤ cap_of limits.vars
-  pub checked : checks_from 0 (held b) ≡ Ok
+  pub checked : checks_from 0 (held b) ≡ Ok tt
   pub each : (i : ℕ) → i < length (held b) → Good (get_or (held b) i blank_stmt)
-  pub labels : labels_from (held b) 0 (held b) ≡ Ok
+  pub labels : labels_from (held b) 0 (held b) ≡ Ok tt
 
-pub passing : (limits : Limits) (b : Block) → check_of limits b ≡ Ok → Passing limits b
+pub passing : (limits : Limits) (b : Block) → check_of limits b ≡ Ok tt → Passing limits b
 unfolding check_of
 passing limits b e =
     let x = first_ok _ _ _ e in

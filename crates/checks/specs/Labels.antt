@@ -1,13 +1,12 @@
 -- Refusal 6: labels that stand twice, and branches to labels that are not in the block.
-use Rattle.std.specs.Prelude.{ℕ, ◌+◌, Bool, true, false, not, ◌||◌, List, [], ◌∷◌, take}
+use Rattle.std.specs.Prelude.{ℕ, ◌+◌, Bool, true, false, not, ◌||◌, List, [], ◌∷◌, take, Result, Ok, Err}
 use Rattle.pcode.specs.Var.{pick, same_label}
 use Rattle.pcode.specs.declared.var.PcodeLabel.{PcodeLabel as Label}
 use Rattle.pcode.specs.declared.op.Op.{Op}
 use Rattle.pcode.specs.declared.op.Op.TheVariants.{Trap, InstructionMarker, PcodeLabel, PcodeBranch, Branch, Load, Store, Call, Select, Subpiece, Opaque, Float, One, Two, Divide, Shift, Rotate, Compare, Bool as BoolOf}
 use Rattle.pcode.specs.declared.block.Stmt.{Stmt}
+use Rattle.pcode.specs.declared.refusal.Refusal.{Refusal}
 use Rattle.pcode.specs.declared.refusal.Refusal.TheVariants.{BadLabel}
-use Rattle.text.specs.declared.answer.Answer.{Answer}
-use Rattle.text.specs.declared.answer.Answer.TheVariants.{Ok, Refused}
 use Rattle.checks.specs.declared.label.LabelUse.{LabelUse}
 use Rattle.checks.specs.declared.label.LabelUse.TheVariants.{None, Stands, Named}
 
@@ -59,6 +58,6 @@ abbrev pub good_label : List Stmt → List Stmt → Op → Bool
 good_label block above op = good_use block above (label_of op)
 
 -- the first statement, from place i on, that breaks the rule
-unfoldable pub labels_from : List Stmt → ℕ → List Stmt → Answer
-labels_from block i [] = Ok
-labels_from block i (s ∷ ss) = pick (good_label block (take i block) s.op) (labels_from block (i + 1) ss) (Refused (BadLabel i))
+unfoldable pub labels_from : List Stmt → ℕ → List Stmt → Result (Unit {0}) Refusal
+labels_from block i [] = Ok tt
+labels_from block i (s ∷ ss) = pick (good_label block (take i block) s.op) (labels_from block (i + 1) ss) (Err (BadLabel i))

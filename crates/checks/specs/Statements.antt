@@ -1,14 +1,13 @@
 -- Refusals 3, 4 and 5: one statement's variables, operands and sizes.
-use Rattle.std.specs.Prelude.{ℕ, ◌+◌, Bool, true, false, List, [], ◌∷◌, eqb, leb}
+use Rattle.std.specs.Prelude.{ℕ, ◌+◌, Bool, true, false, List, [], ◌∷◌, eqb, leb, Result, Ok, Err}
 use Rattle.pcode.specs.Var.{pick, zero_id, size_of, size_out, as_operand}
 use Rattle.pcode.specs.Rules.{meets, output_need, first_need, second_need, fits_rule, size_rule}
 use Rattle.pcode.specs.declared.var.VarNode.{VarNode}
 use Rattle.pcode.specs.declared.var.Operand.{Operand}
 use Rattle.pcode.specs.declared.var.Operand.TheVariants.{None, Const, Var}
 use Rattle.pcode.specs.declared.block.Stmt.{Stmt}
+use Rattle.pcode.specs.declared.refusal.Refusal.{Refusal}
 use Rattle.pcode.specs.declared.refusal.Refusal.TheVariants.{BadVariable, BadOperand, BadSizes}
-use Rattle.text.specs.declared.answer.Answer.{Answer}
-use Rattle.text.specs.declared.answer.Answer.TheVariants.{Ok, Refused}
 
 -- a size is not 0 and not above 16
 unfoldable pub good_size : ℕ → Bool
@@ -46,20 +45,20 @@ unfoldable pub good_sizes : Stmt → Bool
 good_sizes s = fits_rule (size_rule s.op) (size_of s.first) (size_of s.second) (size_out s.output)
 
 -- 3, then 4, then 5, on the statement at place i
-unfoldable pub stmt_check : ℕ → Stmt → Answer
+unfoldable pub stmt_check : ℕ → Stmt → Result (Unit {0}) Refusal
 stmt_check i s =
     pick (good_parts s)
     (pick (met_needs s)
-    (pick (good_sizes s) Ok (Refused (BadSizes i)))
-    (Refused (BadOperand i)))
-    (Refused (BadVariable i))
+    (pick (good_sizes s) (Ok tt) (Err (BadSizes i)))
+    (Err (BadOperand i)))
+    (Err (BadVariable i))
 
 -- the first of two answers that refuses
-abbrev pub else_then : Answer → Answer → Answer
-else_then Ok next = next
-else_then (Refused why) next = Refused why
+abbrev pub else_then : Result (Unit {0}) Refusal → Result (Unit {0}) Refusal → Result (Unit {0}) Refusal
+else_then (Ok u) next = next
+else_then (Err why) next = Err why
 
 -- statement by statement, from place i on
-unfoldable pub checks_from : ℕ → List Stmt → Answer
-checks_from i [] = Ok
+unfoldable pub checks_from : ℕ → List Stmt → Result (Unit {0}) Refusal
+checks_from i [] = Ok tt
 checks_from i (s ∷ ss) = else_then (stmt_check i s) (checks_from (i + 1) ss)

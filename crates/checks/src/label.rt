@@ -1,12 +1,11 @@
 // Refusal 6: a label stands a second time, or a branch names one that is not in the block.
-ghost use Rattle.std.specs.Prelude.{◌≡◌, Bool, true, false, ℕ, take};
+ghost use Rattle.std.specs.Prelude.{◌≡◌, ◌≤◌, length, take};
 ghost use Rattle.checks.specs.Labels.{label_of, is_label, has_label, good_label, labels_from};
 
 use pcode::block::Stmt;
 use pcode::op::Op;
 use pcode::refusal::Refusal;
 use pcode::var::PcodeLabel;
-use text::answer::Answer;
 
 // What an operation has to do with a label: it stands there, or is named by a branch.
 #[derive(Clone, Copy)]
@@ -48,56 +47,43 @@ pub fn is_label(op: Op, l: PcodeLabel) -> bool
 {
     match label_of(op) {
         LabelUse::None => false,
-        LabelUse::Stands(m) => m.same(l),
+        LabelUse::Stands(m) => m == l,
         LabelUse::Named(_) => false,
     }
 }
 
-// Whether a label stands among the first `n` statements.
-pub fn has_label(stmts: [Stmt; 129], n: usize, l: PcodeLabel) -> bool
-    ensures { result ≡ has_label (take n stmts) l }
+// Whether a label stands among the statements.
+pub fn has_label(stmts: &[Stmt], l: PcodeLabel) -> bool
+    ensures { result ≡ has_label stmts.now l }
 {
-    let mut i: usize = 0;
-    while i < 129 {
-        if n <= i {
-            return false;
-        }
-        let s = stmts[i];
-        let op = s.op;
-        if is_label(op, l) {
+    for s in stmts {
+        if is_label(s.op, l) {
             return true;
         }
-        i += 1;
     }
     false
 }
 
-// Statement `i` of the first `n`: a label that did not stand above, a branch to one that stands anywhere.
-fn good_label(stmts: [Stmt; 129], n: usize, i: usize, op: Op) -> bool
-    ensures { result ≡ good_label (take n stmts) (take i stmts) op }
+// Statement `i`: a label that did not stand above, a branch to one that stands anywhere.
+fn good_label(stmts: &[Stmt], i: usize, op: Op) -> bool
+    requires { i ≤ length stmts.now }
+    ensures { result ≡ good_label stmts.now (take i stmts.now) op }
 {
     match label_of(op) {
         LabelUse::None => true,
-        LabelUse::Stands(l) => !has_label(stmts, i, l),
-        LabelUse::Named(l) => has_label(stmts, n, l),
+        LabelUse::Stands(l) => !has_label(&stmts[..i], l),
+        LabelUse::Named(l) => has_label(stmts, l),
     }
 }
 
-// The labels and branches of the first `n` statements.
-pub fn labels(stmts: [Stmt; 129], n: usize) -> Answer
-    ensures { result ≡ labels_from (take n stmts) 0 (take n stmts) }
+// The labels and branches of the statements.
+pub fn labels(stmts: &[Stmt]) -> Result<(), Refusal>
+    ensures { result ≡ labels_from stmts.now 0 stmts.now }
 {
-    let mut i: usize = 0;
-    while i < 129 {
-        if n <= i {
-            return Answer::Ok;
+    for (i, s) in stmts.iter().enumerate() {
+        if !good_label(stmts, i, s.op) {
+            return Err(Refusal::BadLabel(i));
         }
-        let s = stmts[i];
-        let op = s.op;
-        if !good_label(stmts, n, i, op) {
-            return Answer::Refused(Refusal::BadLabel(i));
-        }
-        i += 1;
     }
-    Answer::Ok
+    Ok(())
 }

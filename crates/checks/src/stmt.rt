@@ -1,36 +1,31 @@
 // Refusals 3, 4 and 5: one statement's variables, operands and sizes.
-ghost use Rattle.std.specs.Prelude.{◌≡◌, Bool, true, false, ℕ, take};
+ghost use Rattle.std.specs.Prelude.{◌≡◌};
 ghost use Rattle.checks.specs.Statements.{good_size, good_node, good_operand, there, good_parts, met_needs, good_sizes, stmt_check, checks_from};
 
 use pcode::block::Stmt;
 use pcode::refusal::Refusal;
-use pcode::var::{Operand, VarNode};
-use text::answer::Answer;
+use pcode::var::{Operand, VarId, VarNode, output_size};
 
 // A size from 1 to 16.
+#[tactic(auto, unfolding(crate::specs::Statements::good_size))]
 fn good_size(n: u8) -> bool
     ensures { result ≡ good_size n }
 {
-    if n == 0 {
-        return false;
-    }
-    n <= Operand::MAX_BYTES
+    0 < n && n <= Operand::MAX_BYTES
 }
 
 // A part of a variable: an id other than 0, a good size, and no byte past the 16th.
+#[tactic(auto, unfolding(crate::specs::Statements::good_node))]
 fn good_node(v: VarNode) -> bool
     ensures { result ≡ good_node v }
 {
-    let id = v.id;
-    if id.is_zero() {
+    if v.id == VarId(0) {
         return false;
     }
-    let n = v.size;
-    if !good_size(n) {
+    if !good_size(v.size) {
         return false;
     }
-    let o = v.offset;
-    (o as u16) + (n as u16) <= Operand::MAX_BYTES as u16
+    v.offset as u16 + v.size as u16 <= Operand::MAX_BYTES as u16
 }
 
 fn good_operand(a: Operand) -> bool
@@ -54,84 +49,56 @@ fn is_there(a: Operand) -> bool
 }
 
 // 3: its variables and constants are in range.
+#[tactic(auto, unfolding(crate::specs::Statements::good_parts))]
 fn good_parts(s: Stmt) -> bool
     ensures { result ≡ good_parts s }
 {
-    let output = s.output;
-    let first = s.first;
-    let second = s.second;
-    let o = output.operand();
-    if !good_operand(o) {
-        return false;
-    }
-    if !good_operand(first) {
-        return false;
-    }
-    good_operand(second)
+    good_operand(Operand::from(s.output)) && good_operand(s.first) && good_operand(s.second)
 }
 
 // 4: no operand or output is missing or not allowed.
+#[tactic(auto, unfolding(crate::specs::Statements::met_needs))]
 fn met_needs(s: Stmt) -> bool
     ensures { result ≡ met_needs s }
 {
     let op = s.op;
-    let output = s.output;
-    let first = s.first;
-    let second = s.second;
-    let o = output.operand();
-    if !op.output_need().met(is_there(o)) {
-        return false;
-    }
-    if !op.first_need().met(is_there(first)) {
-        return false;
-    }
-    op.second_need().met(is_there(second))
+    op.output_need().met(is_there(Operand::from(s.output)))
+        && op.first_need().met(is_there(s.first))
+        && op.second_need().met(is_there(s.second))
 }
 
 // 5: its size rule is met.
+#[tactic(auto, unfolding(crate::specs::Statements::good_sizes))]
 fn good_sizes(s: Stmt) -> bool
     ensures { result ≡ good_sizes s }
 {
-    let op = s.op;
-    let output = s.output;
-    let first = s.first;
-    let second = s.second;
-    op.size_rule()
-        .met(first.size(), second.size(), output.size())
+    s.op.size_rule()
+        .met(s.first.size(), s.second.size(), output_size(s.output))
 }
 
 // All three on one statement, which stands at `i`.
-fn statement(i: usize, s: Stmt) -> Answer
+#[tactic(auto, unfolding(crate::specs::Statements::stmt_check))]
+fn statement(i: usize, s: Stmt) -> Result<(), Refusal>
     ensures { result ≡ stmt_check i s }
 {
     if !good_parts(s) {
-        return Answer::Refused(Refusal::BadVariable(i));
+        return Err(Refusal::BadVariable(i));
     }
     if !met_needs(s) {
-        return Answer::Refused(Refusal::BadOperand(i));
+        return Err(Refusal::BadOperand(i));
     }
     if !good_sizes(s) {
-        return Answer::Refused(Refusal::BadSizes(i));
+        return Err(Refusal::BadSizes(i));
     }
-    Answer::Ok
+    Ok(())
 }
 
-// The first `n` statements, one after the other.
-pub fn statements(stmts: [Stmt; 129], n: usize) -> Answer
-    ensures { result ≡ checks_from 0 (take n stmts) }
+// The statements, one after the other.
+pub fn statements(stmts: &[Stmt]) -> Result<(), Refusal>
+    ensures { result ≡ checks_from 0 stmts.now }
 {
-    let mut i: usize = 0;
-    while i < 129 {
-        if n <= i {
-            return Answer::Ok;
-        }
-        let s = stmts[i];
-        let a = statement(i, s);
-        match a {
-            Answer::Ok => {}
-            Answer::Refused(_) => return a,
-        }
-        i += 1;
+    for (i, s) in stmts.iter().enumerate() {
+        statement(i, *s)?;
     }
-    Answer::Ok
+    Ok(())
 }

@@ -1,13 +1,9 @@
 -- Signed comparisons and overflows by the signs of numbers below P, an even number: P = Q + Q.
-use Prim.Native.Nat.{ℕ, zero, suc, ◌+◌, ◌*◌, ◌-◌, ◌%◌, ◌^◌, ◌<◌, ◌≤◌}
-use native.Mathlib.Omega.{arith}
-use native.Mathlib.Nat.{mod-eq_of_lt, mod-eq-sub-mod}
-use mathlib.Core.Path.{◌≡◌, refl, sym, ap, ◌∙◌}
-use mathlib.Core.Bool.{Bool, true, false, not}
-use lib.Dec.{ltb, leb}
-use lib.IntN.{ℤ, pos, negsuc, neg_ℤ, sub_ℕ, ◌+ℤ◌, ◌-ℤ◌}
+use Rattle.std.proofs.Common.{ℕ, zero, suc, ◌+◌, ◌*◌, ◌-◌, ◌%◌, ◌^◌, ◌<◌, ◌≤◌, arith, mod-eq_of_lt, ◌≡◌, refl, sym, ap, ◌∙◌, Bool, true, false, not, ltb, leb, ℤ, pos, negsuc, neg_ℤ, ◌+ℤ◌, ◌-ℤ◌, ltb-true, ltb-false, leb-true, leb-false, le-leb, lt-ltb, le-ltb}
+use native.Mathlib.Nat.{mod-eq-sub-mod}
+use mathlib.Core.Bool.{beq}
+use lib.IntN.{sub_ℕ}
 use lib.Signed.{lt_z, le_z, mag}
-use borrow.Author.Tests.{ltb-true, ltb-false, leb-true, leb-false, le-leb, lt-ltb, le-ltb}
 use Rattle.pcode.specs.Var.{pick}
 use Rattle.meaning.specs.Meaning.{sign, signed, in_range}
 use Rattle.concrete.specs.Fits.{Both}
@@ -76,6 +72,47 @@ signs_borrow true true s = false
 signs_borrow true false s = not s
 signs_borrow false true s = s
 signs_borrow false false s = false
+
+-- where the two signs are the same, and where they are not
+pub less_alike : (x y l : Bool) → beq x y ≡ true → signs_less x y l ≡ l
+less_alike true true l e = refl
+less_alike true false l e = cc
+less_alike false true l e = cc
+less_alike false false l e = refl
+
+pub less_unlike : (x y l : Bool) → beq x y ≡ false → signs_less x y l ≡ x
+less_unlike true true l e = cc
+less_unlike true false l e = refl
+less_unlike false true l e = refl
+less_unlike false false l e = cc
+
+pub carry_alike : (x y s : Bool) → beq x y ≡ true → signs_carry x y s ≡ not (beq x s)
+carry_alike true true true e = refl
+carry_alike true true false e = refl
+carry_alike true false s e = cc
+carry_alike false true s e = cc
+carry_alike false false true e = refl
+carry_alike false false false e = refl
+
+pub carry_unlike : (x y s : Bool) → beq x y ≡ false → signs_carry x y s ≡ false
+carry_unlike true true s e = cc
+carry_unlike true false s e = refl
+carry_unlike false true s e = refl
+carry_unlike false false s e = cc
+
+pub borrow_unlike : (x y s : Bool) → not (beq x y) ≡ true → signs_borrow x y s ≡ not (beq x s)
+borrow_unlike true true s e = cc
+borrow_unlike true false true e = refl
+borrow_unlike true false false e = refl
+borrow_unlike false true true e = refl
+borrow_unlike false true false e = refl
+borrow_unlike false false s e = cc
+
+pub borrow_alike : (x y s : Bool) → not (beq x y) ≡ false → signs_borrow x y s ≡ false
+borrow_alike true true s e = refl
+borrow_alike true false s e = cc
+borrow_alike false true s e = cc
+borrow_alike false false s e = refl
 
 module _ (P Q a b : ℕ) (even : P ≡ Q + Q) (ha : a < P) (hb : b < P) where
   neg_neg_less : ltb (P - 1 - b) (P - 1 - a) ≡ ltb a b

@@ -16,18 +16,15 @@ use wide::Wide;
 pub fn truth(b: bool) -> Wide
     ensures { value_of result ≡ one_if b }
 {
-    if b {
-        return small(1);
-    }
-    small(0)
+    small(u64::from(b))
 }
 
 // Bit 0.
+#[tactic(auto, using(crate::proofs::Counts::low_bit))]
 fn is_odd(a: Wide) -> bool
     ensures { result ≡ odd (value_of a) }
 {
-    let lo = a.lo;
-    lo % 2 == 1
+    a.lo % 2 == 1
 }
 
 fn sign_extend(w: u64, o: u64, a: Wide) -> Wide
@@ -46,8 +43,7 @@ pub fn apply_one(k: OneOp, w: u64, o: u64, a: Wide) -> Wide
     ensures { value_of result ≡ means_one k w o (value_of a) }
 {
     match k {
-        OneOp::Copy => a,
-        OneOp::ZeroExtend => a,
+        OneOp::Copy | OneOp::ZeroExtend => a,
         OneOp::SignExtend => sign_extend(w, o, a),
         OneOp::IntNot => flip(w, a),
         OneOp::IntNegate => sub_at(w, small(0), a),
@@ -93,73 +89,38 @@ pub fn apply_shift(k: ShiftOp, w: u64, a: Wide, b: Wide) -> Wide
     }
 }
 
-fn differ(a: Wide, b: Wide) -> bool
-    ensures { result ≡ not (eqb (value_of a % 2) (value_of b % 2)) }
-{
-    let x = a.lo;
-    let y = b.lo;
-    x % 2 != y % 2
-}
-
-fn either(a: bool, b: bool) -> bool
-    ensures { result ≡ (a || b) }
-{
-    if a {
-        return true;
-    }
-    b
-}
-
-fn both(a: bool, b: bool) -> bool
-    ensures { result ≡ (a && b) }
-{
-    if a {
-        return b;
-    }
-    false
-}
-
 pub fn apply_bool(k: BoolOp, a: Wide, b: Wide) -> bool
     ensures { result ≡ means_bool k (value_of a) (value_of b) }
 {
     match k {
-        BoolOp::BoolAnd => both(is_odd(a), is_odd(b)),
-        BoolOp::BoolOr => either(is_odd(a), is_odd(b)),
-        BoolOp::BoolXor => differ(a, b),
+        BoolOp::BoolAnd => is_odd(a) && is_odd(b),
+        BoolOp::BoolOr => is_odd(a) || is_odd(b),
+        BoolOp::BoolXor => is_odd(a) != is_odd(b),
     }
 }
 
 fn subpiece(n: u16, o: u64, a: Wide) -> Wide
     ensures { value_of result ≡ (value_of a / 2 ^ (8 * n)) % 2 ^ o }
 {
-    let k = 8 * (n as u64);
-    a.shr(k).cut(o)
+    a.shr(8 * u64::from(n)).cut(o)
 }
 
 // What an operation of the run class gives; 0 for the others, which give nothing by themselves.
+#[tactic(auto, unfolding(meaning::specs::Meaning::meaning))]
 pub fn apply(op: Op, w: u64, o: u64, a: Wide, b: Wide) -> Wide
     requires { Applies op w o (value_of a) (value_of b) }
     ensures { value_of result ≡ meaning op w o (value_of a) (value_of b) }
 {
     match op {
-        Op::Trap(_) => small(0),
-        Op::InstructionMarker => small(0),
-        Op::PcodeLabel(_) => small(0),
-        Op::PcodeBranch(_) => small(0),
-        Op::Branch(_) => small(0),
-        Op::Load(_) => small(0),
-        Op::Store(_) => small(0),
-        Op::Call(_, _) => small(0),
-        Op::Select(_) => small(0),
         Op::Subpiece(n) => subpiece(n, o, a),
-        Op::Opaque(_) => small(0),
-        Op::Float(_) => small(0),
         Op::One(k) => apply_one(k, w, o, a),
         Op::Two(k) => apply_two(k, w, a, b),
-        Op::Divide(_) => small(0),
         Op::Shift(k) => apply_shift(k, w, a, b),
-        Op::Rotate(_) => small(0),
         Op::Compare(k) => truth(compare(k, w, a, b)),
         Op::Bool(k) => truth(apply_bool(k, a, b)),
+        Op::Trap(_) | Op::InstructionMarker | Op::Load(_) | Op::Store(_) => small(0),
+        Op::PcodeLabel(_) | Op::PcodeBranch(_) | Op::Branch(_) => small(0),
+        Op::Call(_, _) | Op::Select(_) | Op::Opaque(_) | Op::Float(_) => small(0),
+        Op::Divide(_) | Op::Rotate(_) => small(0),
     }
 }

@@ -9,6 +9,7 @@ use crate::number::{add_at, sign_at, sub_at};
 use pcode::op::CompareOp;
 use wide::Wide;
 
+// A sum that wraps is below each operand.
 fn carry(w: u64, a: Wide, b: Wide) -> bool
     requires { Both w (value_of a) (value_of b) }
     ensures { result ≡ leb (2 ^ w) (value_of a + value_of b) }
@@ -16,55 +17,31 @@ fn carry(w: u64, a: Wide, b: Wide) -> bool
     add_at(w, a, b).less(a)
 }
 
+// The unsigned order where the signs are the same; else the negative one is less.
 fn signed_less(w: u64, a: Wide, b: Wide) -> bool
     requires { Both w (value_of a) (value_of b) }
     ensures { result ≡ lt_z (signed w (value_of a)) (signed w (value_of b)) }
 {
-    let below = a.less(b);
-    if sign_at(w, a) {
-        if sign_at(w, b) {
-            return below;
-        }
-        return true;
-    }
-    if sign_at(w, b) {
-        return false;
-    }
-    below
+    let x = sign_at(w, a);
+    if x == sign_at(w, b) { a.less(b) } else { x }
 }
 
+// The operands' signs are the same, and the sum's is not.
 fn signed_carry(w: u64, a: Wide, b: Wide) -> bool
     requires { Both w (value_of a) (value_of b) }
     ensures { result ≡ not (in_range w (signed w (value_of a) +ℤ signed w (value_of b))) }
 {
-    let top = sign_at(w, add_at(w, a, b));
-    if sign_at(w, a) {
-        if sign_at(w, b) {
-            return !top;
-        }
-        return false;
-    }
-    if sign_at(w, b) {
-        return false;
-    }
-    top
+    let x = sign_at(w, a);
+    x == sign_at(w, b) && x != sign_at(w, add_at(w, a, b))
 }
 
+// The operands' signs are not the same, and the difference's is not the first's.
 fn signed_borrow(w: u64, a: Wide, b: Wide) -> bool
     requires { Both w (value_of a) (value_of b) }
     ensures { result ≡ not (in_range w (signed w (value_of a) -ℤ signed w (value_of b))) }
 {
-    let top = sign_at(w, sub_at(w, a, b));
-    if sign_at(w, a) {
-        if sign_at(w, b) {
-            return false;
-        }
-        return !top;
-    }
-    if sign_at(w, b) {
-        return top;
-    }
-    false
+    let x = sign_at(w, a);
+    x != sign_at(w, b) && x != sign_at(w, sub_at(w, a, b))
 }
 
 pub fn compare(k: CompareOp, w: u64, a: Wide, b: Wide) -> bool

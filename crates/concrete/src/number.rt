@@ -6,23 +6,26 @@ ghost use Rattle.meaning.specs.Meaning.{sign, count_ones, leading_zeros, shift_l
 use wide::Wide;
 
 // The number whose lowest `w` bits are one.
+#[tactic(auto, using(crate::proofs::Widths::all_cut), unfolding(wide::specs::Value::value_of))]
 pub fn ones(w: u64) -> Wide
     requires { w ≤ 128 }
     ensures { value_of result ≡ 2 ^ w - 1 }
 {
     let all = Wide {
-        lo: 18446744073709551615,
-        hi: 18446744073709551615,
+        lo: u64::MAX,
+        hi: u64::MAX,
     };
     all.cut(w)
 }
 
+#[tactic(auto, unfolding(wide::specs::Value::value_of))]
 pub fn small(n: u64) -> Wide
     ensures { value_of result ≡ n }
 {
     Wide { lo: n, hi: 0 }
 }
 
+#[tactic(auto, using(crate::proofs::Widths::cut_cut))]
 pub fn add_at(w: u64, a: Wide, b: Wide) -> Wide
     requires { w ≤ 128 }
     ensures { value_of result ≡ (value_of a + value_of b) % 2 ^ w }
@@ -30,6 +33,7 @@ pub fn add_at(w: u64, a: Wide, b: Wide) -> Wide
     a.add(b).cut(w)
 }
 
+#[tactic(auto, using(crate::proofs::Widths::cut_cut))]
 pub fn mul_at(w: u64, a: Wide, b: Wide) -> Wide
     requires { w ≤ 128 }
     ensures { value_of result ≡ (value_of a * value_of b) % 2 ^ w }
@@ -65,8 +69,7 @@ fn power(k: u64) -> Wide
     requires { k < 128 }
     ensures { value_of result ≡ 2 ^ k }
 {
-    let low = ones(k);
-    low.add(small(1))
+    ones(k).add(small(1))
 }
 
 // The highest of `w` bits.
@@ -74,8 +77,7 @@ pub fn sign_at(w: u64, a: Wide) -> bool
     requires { (0 < w) × (w ≤ 128) }
     ensures { result ≡ sign w (value_of a) }
 {
-    let top = power(w - 1);
-    !a.less(top)
+    !a.less(power(w - 1))
 }
 
 // Whether an amount is the width or more.
@@ -85,6 +87,7 @@ fn past(w: u64, b: Wide) -> bool
     !b.less(small(w))
 }
 
+#[tactic(auto, using(crate::proofs::Widths::low_half))]
 pub fn left(w: u64, a: Wide, b: Wide) -> Wide
     requires { w ≤ 128 }
     ensures { value_of result ≡ shift_left w (value_of a) (value_of b) }
@@ -96,6 +99,7 @@ pub fn left(w: u64, a: Wide, b: Wide) -> Wide
     mul_at(w, a, power(k))
 }
 
+#[tactic(auto, using(crate::proofs::Widths::low_half))]
 pub fn right(w: u64, a: Wide, b: Wide) -> Wide
     requires { w ≤ 128 }
     ensures { value_of result ≡ shift_right w (value_of a) (value_of b) }
@@ -114,11 +118,9 @@ pub fn count_ones(w: u64, a: Wide) -> u64
 {
     let mut n: u64 = 0;
     let mut rest = a;
-    let mut i: u64 = 0;
-    while i < w {
+    for _ in 0..w {
         n += rest.lo % 2;
         rest = rest.shr(1);
-        i += 1;
     }
     n
 }
@@ -128,15 +130,10 @@ pub fn count_leading_zeros(w: u64, a: Wide) -> u64
     requires { w ≤ 128 }
     ensures { result ≡ leading_zeros w (value_of a) }
 {
-    let mut n: u64 = 0;
-    let mut i = w;
-    while 0 < i {
-        i -= 1;
-        let p = power(i);
-        if !a.less(p) {
-            return n;
+    for i in (0..w).rev() {
+        if !a.less(power(i)) {
+            return w - 1 - i;
         }
-        n += 1;
     }
-    n
+    w
 }

@@ -1,11 +1,6 @@
 -- One more entry comes first, and the entries below it stay. Assumes nothing.
-use Prim.Native.Nat.{ℕ, zero, suc, ◌+◌, ◌*◌, ◌≤◌, ◌<◌}
-use mathlib.Core.Path.{◌≡◌, refl, sym, ◌∙◌, ap}
-use mathlib.Core.List.{List, [], ◌∷◌, ◌++◌}
-use native.Mathlib.Omega.{arith}
-use native.Mathlib.Numerals.{add-one}
-use lib.ListN.{length, take, drop, get_or}
-use lib.Seq.{take-take, get_or-take, get_or_at, take_at, length-take-le, get_or-append-add, drop-append-add}
+use Rattle.std.proofs.Common.{ℕ, zero, suc, ◌+◌, ◌*◌, ◌≤◌, ◌<◌, ◌≡◌, refl, sym, ◌∙◌, ap, List, [], ◌∷◌, ◌++◌, arith, add-one, length, take, drop, get_or, take-take, get_or-take, take_at, length-take-le, get_or-append-add}
+use lib.Seq.{get_or_at, drop-append-add}
 use Rattle.const_eval.specs.declared.place.Place.{Place}
 use Rattle.const_eval.specs.Known.{splice}
 use Rattle.const_eval.specs.Map.{place_at, entry_at, entries, words_of, Short}

@@ -1,20 +1,12 @@
 -- What each step keeps: the state stays good, the lengths stay, and the counts grow by one at most. Assumes nothing.
-use Prim.Native.Nat.{ℕ, ◌+◌, ◌*◌, ◌≤◌, ◌<◌}
-use mathlib.Core.Path.{◌≡◌, refl, sym, ◌∙◌, ap, subst}
-use mathlib.Core.Bool.{Bool, true, false}
-use mathlib.Core.List.{List}
-use native.Mathlib.Omega.{arith}
-use lib.Dec.{eqb}
-use lib.ListN.{length, get_or, length-set, length-replicate}
+use Rattle.std.proofs.Common.{ℕ, ◌+◌, ◌*◌, ◌≤◌, ◌<◌, ◌≡◌, refl, sym, ◌∙◌, ap, subst, Bool, true, false, List, arith, eqb, length, get_or, length-set, get_or-set_same, Option, Some, None}
+use lib.ListN.{length-replicate}
 use borrow.Author.Tests.{eqb-false}
-use lib.Seq.{get_or-set_same}
 use Rattle.pcode.specs.Var.{pick}
 use Rattle.const_eval.specs.Known.{start_of, part_of, splice, fresh_row, Fit, Within}
 use Rattle.const_eval.specs.Map.{Entry, words_of, Inside}
 use Rattle.const_eval.specs.State.{State, state_of, entries_of, map_gives, entered, freshened, first_use, noted_by, noted, forgotten, cleared, Good, Room, Able}
 use Rattle.const_eval.specs.declared.place.Place.{Place}
-use Rattle.const_eval.specs.declared.map.Found.{Found}
-use Rattle.const_eval.specs.declared.map.Found.TheVariants.{Nothing, At}
 use Rattle.const_eval.proofs.Codes.{row_length, keep_length}
 use Rattle.const_eval.proofs.Parts.{part_length, splice_length, fit_within}
 use Rattle.const_eval.proofs.Entered.{entered_first}
@@ -110,9 +102,9 @@ first_used p s h = go (eqb (get_or s.used p.row 0) 0) refl
 pub noted_kept : (p : Place) (s : State) → Room p s → Kept s (noted p s)
 noted_kept p s r = go (map_gives (part_of p s.store) s)
   where
-    go : (f : Found) → Kept s (noted_by f p s)
-    go Nothing = entered_kept p s r.good (good_within p s r.good r.part_in) r.more
-    go (At q) = same_kept s r.good
+    go : (f : Option Place) → Kept s (noted_by f p s)
+    go None = entered_kept p s r.good (good_within p s r.good r.part_in) r.more
+    go (Some q) = same_kept s r.good
 
 -- a marker
 pub forgotten_kept : (temp : List ℕ) (s : State) → Good s → Kept s (forgotten temp s)

@@ -3,5 +3,4 @@ pub mod Parts
 pub mod Entries
 pub mod Entered
 pub mod Looks
-pub mod Uses
 pub mod Keeps

@@ -1,11 +1,6 @@
 -- Parts of a list, and what is put back in their place. Assumes nothing.
-use Prim.Native.Nat.{ℕ, ◌+◌, ◌*◌, ◌-◌, ◌≤◌}
-use mathlib.Core.Path.{◌≡◌, ◌∙◌, ap}
-use mathlib.Core.List.{List, ◌++◌}
-use native.Mathlib.Omega.{arith}
+use Rattle.std.proofs.Common.{ℕ, ◌+◌, ◌*◌, ◌-◌, ◌≤◌, ◌≡◌, ◌∙◌, ap, List, ◌++◌, arith, length, take, drop, length-append, length-drop, length-take-le, drop-drop, take_at, drop_at}
 use borrow.Rule.Slice.PartMut.{put_mid}
-use lib.ListN.{length, take, drop, length-append, length-drop}
-use lib.Seq.{length-take-le, drop-drop, take_at, drop_at}
 use Rattle.const_eval.specs.declared.place.Place.{Place}
 use Rattle.const_eval.specs.Known.{start_of, part_of, splice, Fit, Within}
 
@@ -14,10 +9,6 @@ pub part_is : (at len : ℕ) (xs : List ℕ) → take (at + len - at) (drop at x
 part_is at len xs =
     let q : at + len - at ≡ len = omega arith in
     rw q
-
--- what holds of the slice holds of the part
-pub of_slice : {R : Type 0} (f : List ℕ → R) (r : R) (at len : ℕ) (xs : List ℕ) → r ≡ f (take (at + len - at) (drop at xs)) → r ≡ f (take len (drop at xs))
-of_slice f r at len xs e = e ∙ ap f (part_is at len xs)
 
 -- a slice's length
 pub slice_length : (at len : ℕ) (xs : List ℕ) → at + len ≤ length xs → length (take (at + len - at) (drop at xs)) ≡ len
@@ -36,10 +27,6 @@ splice_length at new xs h = simp (length-append, length-drop) (omega (arith, len
 -- a part has eight codes a byte
 pub part_length : (p : Place) (store : List ℕ) → Within (length store) p → length (part_of p store) ≡ 8 * p.size
 part_length p store w = length-take-le (8 * p.size) (drop (start_of p) store) (omega (arith, w.row_in, w.inside, length-drop (start_of p) store))
-
--- a part of a row ends in the store
-pub within_end : (p : Place) (codes : ℕ) → Within codes p → start_of p + 8 * p.size ≤ codes
-within_end p codes w = omega (arith, w.row_in, w.inside)
 
 -- bytes of a row lie in a store of that many rows
 pub fit_within : (rows codes : ℕ) (p : Place) → codes ≡ 128 * rows → Fit rows p → Within codes p

@@ -1,6 +1,6 @@
 -- The bits known of each variable: a store of 128 codes a row.
-use Rattle.std.specs.Prelude.{ℕ, zero, suc, ◌+◌, ◌*◌, ◌≤◌, ◌<◌, Bool, true, false, List, [], ◌∷◌, ◌++◌, eqb, length, take, drop}
-use Rattle.pcode.specs.Var.{pick}
+use Rattle.std.specs.Prelude.{ℕ, zero, suc, ◌+◌, ◌*◌, ◌≤◌, ◌<◌, Bool, List, [], ◌∷◌, ◌++◌, nat_eq, length, take, drop}
+use Rattle.std.specs.Cmp.Lexicographic.{pointwise}
 use Rattle.const_eval.specs.declared.place.Place.{Place}
 
 -- where a part's codes begin in the store
@@ -17,10 +17,7 @@ splice at new xs = take at xs ++ (new ++ drop (at + length new) xs)
 
 -- two values are the same, bit by bit
 abbrev pub same_codes : List ℕ → List ℕ → Bool
-same_codes [] [] = true
-same_codes [] (y ∷ ys) = false
-same_codes (x ∷ xs) [] = false
-same_codes (x ∷ xs) (y ∷ ys) = pick (eqb x y) (same_codes xs ys) false
+same_codes = pointwise nat_eq
 
 -- new expressions (id, i), (id, i + 1), ..
 abbrev pub fresh_from : ℕ → ℕ → ℕ → List ℕ

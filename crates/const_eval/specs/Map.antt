@@ -1,9 +1,7 @@
 -- The value map: a value maps to the variable last entered for it, used only if that variable still holds it.
-use Rattle.std.specs.Prelude.{ℕ, zero, suc, ◌+◌, ◌*◌, ◌≤◌, List, [], ◌∷◌, take, drop, get_or}
+use Rattle.std.specs.Prelude.{ℕ, zero, suc, ◌+◌, ◌*◌, ◌≤◌, List, [], ◌∷◌, Option, Some, None, take, drop, get_or}
 use Rattle.pcode.specs.Var.{pick}
 use Rattle.const_eval.specs.declared.place.Place.{Place}
-use Rattle.const_eval.specs.declared.map.Found.{Found}
-use Rattle.const_eval.specs.declared.map.Found.TheVariants.{Nothing, At}
 use Rattle.const_eval.specs.Known.{part_of, same_codes, Within}
 
 -- a value, and the part of a variable entered for it
@@ -29,17 +27,17 @@ entries map zero = []
 entries map (suc i) = entry_at map i ∷ entries map i
 
 -- the part last entered for a value
-abbrev pub find_e : List ℕ → List Entry → Found
-find_e key [] = Nothing
-find_e key (e ∷ es) = pick (same_codes e.key key) (At e.place) (find_e key es)
+abbrev pub find_e : List ℕ → List Entry → Option Place
+find_e key [] = None
+find_e key (e ∷ es) = pick (same_codes e.key key) (Some e.place) (find_e key es)
 
 -- used only if that part still holds the value
-abbrev pub if_still : List ℕ → List ℕ → Found → Found
-if_still store key Nothing = Nothing
-if_still store key (At p) = pick (same_codes (part_of p store) key) (At p) Nothing
+abbrev pub if_still : List ℕ → List ℕ → Option Place → Option Place
+if_still store key None = None
+if_still store key (Some p) = pick (same_codes (part_of p store) key) (Some p) None
 
 -- what the map gives for a value
-abbrev pub lookup_of : List ℕ → List Entry → List ℕ → Found
+abbrev pub lookup_of : List ℕ → List Entry → List ℕ → Option Place
 lookup_of store es key = if_still store key (find_e key es)
 
 -- every entry's part lies in a store of that many codes

@@ -1,10 +1,9 @@
 -- What the first pass knows, as one value, and how it changes.
-use Rattle.std.specs.Prelude.{ℕ, ◌+◌, ◌*◌, ◌≤◌, ◌<◌, ◌≡◌, List, [], ◌∷◌, eqb, length, get_or, set, replicate}
+use Rattle.std.specs.Prelude.{ℕ, ◌+◌, ◌*◌, ◌≤◌, ◌<◌, ◌≡◌, List, [], ◌∷◌, Option, Some, None, eqb, length, get_or, set, replicate}
 use Rattle.pcode.specs.Var.{pick}
 use Rattle.const_eval.specs.declared.place.Place.{Place}
 use Rattle.const_eval.specs.declared.known.Tally.{Tally}
-use Rattle.const_eval.specs.declared.map.Found.{Found}
-use Rattle.const_eval.specs.declared.map.Found.TheVariants.{Nothing, At}
+use Rattle.const_eval.specs.declared.known.ConstEval.{ConstEval}
 use Rattle.const_eval.specs.Known.{part_of, splice, fresh_row, Fit}
 use Rattle.const_eval.specs.Map.{Entry, entries, words_of, lookup_of, Inside}
 
@@ -19,12 +18,22 @@ pub record State : Type 0 where
 abbrev pub state_of : List ℕ → List ℕ → List ℕ → Tally → State
 state_of store used map t = record { store = store; used = used; map = map; tally = t }
 
+-- the state that is known
+abbrev pub known_of : ConstEval → State
+known_of k = state_of k.store.now k.used.now k.map.now k.tally
+
+-- the slices lent stay the same ones
+pub record Keeps (old new : ConstEval) : Type 0 where
+  pub store : new.store.ghost_name ≡ old.store.ghost_name
+  pub used : new.used.ghost_name ≡ old.used.ghost_name
+  pub map : new.map.ghost_name ≡ old.map.ghost_name
+
 -- the value map's entries, the newest first
 abbrev pub entries_of : State → List Entry
 entries_of s = entries s.map s.tally.count
 
 -- what the map gives for a value
-abbrev pub map_gives : List ℕ → State → Found
+abbrev pub map_gives : List ℕ → State → Option Place
 map_gives key s = lookup_of s.store (entries_of s) key
 
 -- a part's value is entered
@@ -40,9 +49,9 @@ abbrev pub first_use : Place → State → State
 first_use p s = pick (eqb (get_or s.used p.row 0) 0) (entered p (freshened p.row s)) s
 
 -- by what the map gives
-abbrev pub noted_by : Found → Place → State → State
-noted_by Nothing p s = entered p s
-noted_by (At q) p s = s
+abbrev pub noted_by : Option Place → Place → State → State
+noted_by None p s = entered p s
+noted_by (Some q) p s = s
 
 -- a written output is entered, unless the map gives one that still holds it
 abbrev pub noted : Place → State → State

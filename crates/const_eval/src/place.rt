@@ -10,29 +10,14 @@ pub struct Place {
     pub size: usize,
 }
 
-// Whether two slices of one length hold the same codes.
-pub fn same(a: &[u64], b: &[u64]) -> bool
-    requires { length a.now ≡ length b.now }
-    ensures { result ≡ same_codes a.now b.now }
-{
-    let mut i = 0;
-    while i < a.len() {
-        if a[i] != b[i] {
-            return false;
-        }
-        i += 1;
-    }
-    true
-}
-
-pub fn copy(out: &mut [u64], a: &[u64])
-    requires { length out.old ≡ length a.now }
-    ensures { out.new ≡ a.now }
-{
-    let mut i = 0;
-    while i < out.len() {
-        out[i] = a[i];
-        i += 1;
+impl Place {
+    // The part's codes.
+    pub fn part(self, store: &[u64]) -> &[u64]
+        requires { Within (length store.now) self }
+        ensures { result.now ≡ part_of self store.now }
+    {
+        let start = 128 * self.row + 8 * self.offset;
+        &store[start..start + 8 * self.size]
     }
 }
 
@@ -41,11 +26,9 @@ fn fresh(row: &mut [u64], id: u32)
     requires { length row.old ≤ 128 }
     ensures { row.new ≡ fresh_from id 0 (length row.old) }
 {
-    let base = 4 + 512 * (id as u64);
-    let mut i = 0;
-    while i < row.len() {
-        row[i] = base + 2 * (i as u64);
-        i += 1;
+    let base = 4 + 512 * u64::from(id);
+    for (i, x) in row.iter_mut().enumerate() {
+        *x = base + 2 * (i as u64);
     }
 }
 
@@ -54,9 +37,8 @@ pub fn fresh_row(store: &mut [u64], row: usize, id: u32)
     requires { 128 * row + 128 ≤ length store.old }
     ensures { store.new ≡ splice (128 * row) (fresh_row id) store.old }
 {
-    let a = 128 * row;
-    let e = a + 128;
-    fresh(&mut store[a..e], id);
+    let start = 128 * row;
+    fresh(&mut store[start..start + 128], id);
 }
 
 // Whether a part of the store holds these codes.
@@ -64,13 +46,7 @@ pub fn holds(store: &[u64], p: Place, key: &[u64]) -> bool
     requires { Within (length store.now) p }
     ensures { result ≡ same_codes (part_of p store.now) key.now }
 {
-    let n = 8 * p.size;
-    if n != key.len() {
-        return false;
-    }
-    let a = 128 * p.row + 8 * p.offset;
-    let e = a + n;
-    same(&store[a..e], key)
+    p.part(store) == key
 }
 
 // A part of the store takes new codes.
@@ -78,7 +54,6 @@ pub fn put(store: &mut [u64], p: Place, new: &[u64])
     requires { Within (length store.old) p × (length new.now ≡ 8 * p.size) }
     ensures { store.new ≡ splice (start_of p) new.now store.old }
 {
-    let a = 128 * p.row + 8 * p.offset;
-    let e = a + 8 * p.size;
-    copy(&mut store[a..e], new);
+    let start = 128 * p.row + 8 * p.offset;
+    store[start..start + new.len()].copy_from_slice(new);
 }

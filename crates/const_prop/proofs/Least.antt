@@ -1,10 +1,5 @@
 -- The least of some ids. Assumes nothing.
-use Prim.Native.Nat.{ℕ, zero, suc, ◌+◌, ◌<◌}
-use mathlib.Core.Path.{◌≡◌, refl, sym, ◌∙◌, ap}
-use mathlib.Core.List.{List, [], ◌∷◌, ◌++◌, append_assoc, append-nil}
-use native.Mathlib.Numerals.{add-one}
-use native.Mathlib.Omega.{arith}
-use lib.ListN.{length, take, get_or}
+use Rattle.std.proofs.Common.{ℕ, zero, suc, ◌+◌, ◌<◌, ◌≡◌, refl, sym, ◌∙◌, ap, List, [], ◌∷◌, ◌++◌, append_assoc, append-nil, add-one, arith, length, take, get_or}
 use Rattle.pcode.specs.Var.{least_id}
 use Rattle.pcode.specs.Block.{blank_stmt}
 use Rattle.pcode.specs.declared.var.VarId.{VarId}
@@ -12,14 +7,10 @@ use Rattle.pcode.specs.declared.block.Stmt.{Stmt}
 use Rattle.vars.specs.Vars.{ids_of}
 use Rattle.const_prop.specs.Pass.{all_ids, least_from}
 
--- of no ids, of one
+-- of no ids
 pub least_nil : (x : VarId) → x ≡ least_from x []
 unfolding least_from
 least_nil x = refl
-
-pub least_one : (x y : VarId) → least_id x y ≡ least_from x (y ∷ [])
-unfolding least_from
-least_one x y = refl
 
 -- of two lists, one after the other
 pub least_append : (x : VarId) (xs ys : List VarId) → least_from (least_from x xs) ys ≡ least_from x (xs ++ ys)

@@ -1,15 +1,8 @@
 -- The result and the targets as the walk fills them. Assumes nothing.
-use Prim.Native.Nat.{ℕ, zero, suc, ◌+◌, ◌-◌, ◌≤◌, ◌<◌}
-use mathlib.Core.Path.{◌≡◌, refl, sym, ◌∙◌, ap}
-use mathlib.Core.List.{List, [], ◌∷◌, ◌++◌, append_assoc, append-nil}
-use native.Mathlib.Numerals.{add-one}
-use native.Mathlib.Nat.{add-zero}
-use native.Mathlib.Omega.{arith}
-use lib.ListN.{length, take, drop, get_or, set, replicate}
-use lib.Seq.{drop-cons}
+use Rattle.std.proofs.Common.{ℕ, zero, suc, ◌+◌, ◌≤◌, ◌<◌, ◌≡◌, refl, sym, ◌∙◌, ap, List, [], ◌∷◌, ◌++◌, append_assoc, append-nil, add-one, add-zero, arith, length, take, drop, get_or, set, replicate, drop-cons}
+use lib.Seq.{set_at}
 use Rattle.pcode.specs.Block.{blank_stmt, blank_stmts}
 use Rattle.pcode.specs.declared.block.Stmt.{Stmt}
-use Rattle.vars.proofs.Joining.{put_more}
 use Rattle.widen.specs.declared.widen.Made.{Made}
 use Rattle.const_step.specs.Labels.{target_of, targets_of}
 use Rattle.const_step.proofs.Turns.{Shaped, none, one, two}
@@ -30,6 +23,12 @@ unfolding blank_stmts
 blanks_split k h =
     drop-cons blank_stmts k blank_stmt (omega (arith, blanks_length, h)) ∙ ap (λ (x : Stmt). x ∷ drop (suc k) blank_stmts) (get_d_same 129 k blank_stmt)
 
+-- the next free place takes an element
+pub put_more : {A : Type 0} (l free : List A) (x d : A) (k : ℕ) → k ≡ length l → k < length free
+    → set (l ++ drop k free) k x ≡ (l ++ (x ∷ [])) ++ drop (suc k) free
+put_more l free x d k e h =
+    rw (drop-cons free k d h) (set_at l (get_or free k d) (drop (suc k) free) x k (sym e) ∙ sym (append_assoc l (x ∷ []) (drop (suc k) free)))
+
 -- the next two free places take two statements
 pub put_two : (l : List Stmt) (a b : Stmt) (k : ℕ) → k ≡ length l → k + 2 ≤ 129
     → set (set (l ++ drop k blank_stmts) k a) (k + 1) b ≡ ((l ++ (a ∷ [])) ++ (b ∷ [])) ++ drop (suc (suc k)) blank_stmts
@@ -45,7 +44,7 @@ put_two l a b k e h =
 -- the statements that a step gives stand in the result, and blanks after them
 pub shaped_body : (m : Made) (l : List Stmt) (k : ℕ) → Shaped m → k + 2 ≤ 129
     → ((l ++ (m.first ∷ [])) ++ (m.second ∷ [])) ++ drop (suc (suc k)) blank_stmts ≡ (l ++ stmts_of m) ++ drop (k + m.count) blank_stmts
-shaped_body m l k (none s w) h =
+shaped_body m l k (none s) h =
     append_assoc (l ++ (blank_stmt ∷ [])) (blank_stmt ∷ []) (drop (suc (suc k)) blank_stmts)
     ∙ ap (λ (z : List Stmt). (l ++ (blank_stmt ∷ [])) ++ z) (sym (blanks_split (suc k) (omega (arith, h))))
     ∙ append_assoc l (blank_stmt ∷ []) (drop (suc k) blank_stmts)
@@ -63,13 +62,13 @@ pub shaped_length : (m : Made) (l : List Stmt) (k : ℕ) → Shaped m → k ≡ 
 shaped_length m l k s e = ap (λ (j : ℕ). j + m.count) e ∙ go l m s
   where
     go : (l : List Stmt) (m : Made) → Shaped m → length l + m.count ≡ length (l ++ stmts_of m)
-    go [] m (none s w) = refl
+    go [] m (none s) = refl
     go [] m (one a) = refl
     go [] m (two a b) = refl
     go (x ∷ l) m s = let ih = go l m s in omega (arith, ih)
 
 pub shaped_small : (m : Made) → Shaped m → m.count ≤ 2
-shaped_small m (none s w) = omega arith
+shaped_small m (none s) = omega arith
 shaped_small m (one a) = omega arith
 shaped_small m (two a b) = omega arith
 
@@ -104,7 +103,7 @@ shaped_targets m l js k s h e = go m s ∙ ap (λ (z : List ℕ). z ++ targets_o
     j = add-one k
 
     go : (m : Made) → Shaped m → take (k + m.count) (set (set js k (target_of m.first)) (k + 1) (target_of m.second)) ≡ take k js ++ targets_of (stmts_of m)
-    go m (none t w) =
+    go m (none t) =
         ap (λ (i : ℕ). take i (set (set js k 0) (k + 1) 0)) (add-zero k)
         ∙ ap (λ (i : ℕ). take k (set (set js k 0) i 0)) j
         ∙ two_none js k 0 0 (omega (arith, h))
@@ -116,21 +115,8 @@ shaped_targets m l js k s h e = go m s ∙ ap (λ (z : List ℕ). z ++ targets_o
         ∙ ap (λ (i : ℕ). take i (set (set js k (target_of a)) (suc k) (target_of b))) (let q : k + 2 ≡ suc (suc k) = omega arith in q)
         ∙ two_both js k (target_of a) (target_of b) (omega (arith, h))
 
-none_left : (k : ℕ) → ◌≡◌ {A = List ℕ} (take k []) []
-none_left zero = refl
-none_left (suc k) = refl
-
 -- the targets below a statement
-pub below_targets : (js : List ℕ) (ss : List Stmt) (n i : ℕ) → take n js ≡ targets_of (take n ss) → take (n - i) (drop i js) ≡ targets_of (drop i (take n ss))
-below_targets js ss n i e = take_drop_swap i n js ∙ ap (drop i) e ∙ drop_targets i (take n ss)
-  where
-    take_drop_swap : (i n : ℕ) (js : List ℕ) → take (n - i) (drop i js) ≡ drop i (take n js)
-    take_drop_swap zero n js = ap (λ (k : ℕ). take k js) (let q : n - 0 ≡ n = omega arith in q)
-    take_drop_swap (suc i) n [] = none_left (n - suc i) ∙ sym (ap (λ (l : List ℕ). drop (suc i) l) (none_left n))
-    take_drop_swap (suc i) zero (x ∷ js) = ap (λ (k : ℕ). take k (drop i js)) (let q : zero - suc i ≡ 0 = omega arith in q)
-    take_drop_swap (suc i) (suc n) (x ∷ js) = ap (λ (k : ℕ). take k (drop i js)) (let q : suc n - suc i ≡ n - i = omega arith in q) ∙ take_drop_swap i n js
-
-    drop_targets : (i : ℕ) (ss : List Stmt) → drop i (targets_of ss) ≡ targets_of (drop i ss)
-    drop_targets zero ss = refl
-    drop_targets (suc i) [] = refl
-    drop_targets (suc i) (s ∷ ss) = drop_targets i ss
+pub below_targets : (i : ℕ) (ss : List Stmt) → drop i (targets_of ss) ≡ targets_of (drop i ss)
+below_targets zero ss = refl
+below_targets (suc i) [] = refl
+below_targets (suc i) (s ∷ ss) = below_targets i ss

@@ -1,3 +1,2 @@
 pub mod Targets
 pub mod Turns
-pub mod Joins

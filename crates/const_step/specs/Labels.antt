@@ -1,18 +1,16 @@
 -- Which labels are kept, and what a label and a skip give.
-use Rattle.std.specs.Prelude.{ℕ, ◌+◌, Bool, false, ◌||◌, List, [], ◌∷◌, map, eqb}
+use Rattle.std.specs.Prelude.{ℕ, ◌+◌, Bool, false, ◌||◌, List, [], ◌∷◌, Option, None as Nothing, Some, map, eqb}
 use Rattle.pcode.specs.Var.{pick, same_label}
 use Rattle.pcode.specs.Block.{stmt_of}
 use Rattle.pcode.specs.declared.var.PcodeLabel.{PcodeLabel}
 use Rattle.pcode.specs.declared.var.Operand.TheVariants.{None, Const}
-use Rattle.pcode.specs.declared.var.Output.TheVariants as Out
+use Rattle.std.specs.declared.option.Option.TheVariants as Out
 use Rattle.pcode.specs.declared.op.Op.TheVariants as Ops
 use Rattle.pcode.specs.declared.block.Stmt.{Stmt}
 use Rattle.widen.specs.Turn.{turn_of}
 use Rattle.widen.specs.Widen.{nothing_m, one_m, two_m}
 use Rattle.widen.specs.declared.turn.Turn.{Turn}
 use Rattle.widen.specs.declared.turn.Turn.TheVariants.{Plain, Marker, Label, Jump, Exit, Hook}
-use Rattle.widen.specs.declared.widen.Skip.{Skip}
-use Rattle.widen.specs.declared.widen.Skip.TheVariants as Skips
 use Rattle.widen.specs.declared.widen.Made.{Made}
 
 -- one above the label that is branched to; 0 for other statements
@@ -50,20 +48,20 @@ abbrev pub label_stmt : PcodeLabel → Stmt
 label_stmt l = stmt_of (Ops.PcodeLabel l) Out.None None None
 
 -- a skip ends at its own label
-abbrev pub arrives_of : Skip → PcodeLabel → Skip
-arrives_of Skips.None l = Skips.None
-arrives_of (Skips.To t) l = pick (same_label t l) Skips.None (Skips.To t)
+abbrev pub arrives_of : Option PcodeLabel → PcodeLabel → Option PcodeLabel
+arrives_of Nothing l = Nothing
+arrives_of (Some t) l = pick (same_label t l) Nothing (Some t)
 
 -- a skip meeting a kept label not its own becomes a `PcodeBranch` there
-abbrev pub kept_label : Skip → PcodeLabel → Made
-kept_label Skips.None l = one_m (label_stmt l)
-kept_label (Skips.To t) l = two_m (branch_of t) (label_stmt l)
+abbrev pub kept_label : Option PcodeLabel → PcodeLabel → Made
+kept_label Nothing l = one_m (label_stmt l)
+kept_label (Some t) l = two_m (branch_of t) (label_stmt l)
 
 -- a kept label; others vanish
-abbrev pub label_of : Skip → PcodeLabel → Bool → Made
+abbrev pub label_of : Option PcodeLabel → PcodeLabel → Bool → Made
 label_of k l kept = pick kept (kept_label (arrives_of k l) l) (nothing_m (arrives_of k l))
 
 -- a skip meeting the end becomes a `PcodeBranch` there
-abbrev pub end_of : Skip → Made
-end_of Skips.None = nothing_m Skips.None
-end_of (Skips.To t) = one_m (branch_of t)
+abbrev pub end_of : Option PcodeLabel → Made
+end_of Nothing = nothing_m Nothing
+end_of (Some t) = one_m (branch_of t)

@@ -1,12 +1,5 @@
 -- The scan from the front for ids read before any write since the last label.
-use Prim.Native.Nat.{ℕ, zero, suc, ◌+◌, ◌≤◌, ◌<◌}
-use native.Mathlib.Omega.{arith}
-use mathlib.Core.Path.{◌≡◌, refl, sym, ap, ◌∙◌}
-use mathlib.Core.Bool.{Bool, true, false, not, ◌&&◌, ◌||◌}
-use mathlib.Core.List.{List, [], ◌∷◌}
-use lib.Dec.{eqb}
-use lib.ListN.{length, get_or, drop, replicate, drop_of_length-le}
-use lib.Seq.{get_or-take}
+use Rattle.std.proofs.Common.{ℕ, zero, suc, ◌+◌, ◌≤◌, ◌<◌, min, arith, ◌≡◌, refl, sym, ap, ◌∙◌, Bool, true, false, not, ◌&&◌, ◌||◌, List, [], ◌∷◌, eqb, length, get_or, drop, replicate, drop_of_length-le, length-take, get_or-take}
 use Rattle.pcode.specs.Var.{as_operand}
 use Rattle.pcode.specs.Block.{has_id, lasting}
 use Rattle.pcode.specs.declared.var.VarId.{VarId}
@@ -103,12 +96,14 @@ module _ (l : List VarId) (s : Stmt) (w : Rows) (h : (id : VarId) → has_id (id
       ∙ ap (λ (b : Bool). b || get_or written (row_of l id) false) (names_id_at l id m (as_operand s.output) (output_among l s h))
 
 -- what persists, at the row of an id
-pub persists_at : (m : Marks) (v : Vars) (ss : List Stmt) (p live : List Bool) → FlagsAre p (λ i. lasting m (get_or v.ids i no_id) || get_or live i false)
-    → length (held_ids v) ≤ 112 → length (held_ids v) ≤ v.count → (id : VarId) → has_id (held_ids v) id ≡ true → get_or live (row_of (held_ids v) id) false ≡ read_first false ss id
+pub persists_at : (m : Marks) (v : Vars) (ss : List Stmt) (p live : List Bool) → length (held_ids v) ≤ 112
+    → ((k : ℕ) → k < 112 → get_or p k false ≡ (lasting m (get_or v.ids k no_id) || get_or live k false))
+    → (id : VarId) → has_id (held_ids v) id ≡ true → get_or live (row_of (held_ids v) id) false ≡ read_first false ss id
     → get_or p (row_of (held_ids v) id) false ≡ persists m ss id
-persists_at m v ss p live f small short id h e =
+persists_at m v ss p live small f id h e =
     let b = row_below (held_ids v) id h in
+    let k : length (held_ids v) ≡ min v.count (length v.ids) = length-take v.count v.ids in
     let i : get_or v.ids (row_of (held_ids v) id) no_id ≡ id = sym (get_or-take v.count v.ids (row_of (held_ids v) id) no_id (omega arith)) ∙ row_at (held_ids v) id no_id h in
-    f.flags (row_of (held_ids v) id) (omega arith)
+    f (row_of (held_ids v) id) (omega arith)
     ∙ ap (λ (x : VarId). lasting m x || get_or live (row_of (held_ids v) id) false) i
     ∙ ap (λ (x : Bool). lasting m id || x) e

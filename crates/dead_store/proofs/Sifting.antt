@@ -1,11 +1,5 @@
 -- The compaction: one more statement looked at.
-use Prim.Native.Nat.{ℕ, zero, suc, ◌+◌, ◌≤◌, ◌<◌}
-use native.Mathlib.Numerals.{add-one}
-use native.Mathlib.Omega.{arith}
-use mathlib.Core.Path.{◌≡◌, refl, sym, ap, ◌∙◌}
-use mathlib.Core.Bool.{Bool, true, false}
-use mathlib.Core.List.{List, [], ◌∷◌, ◌++◌, append-nil}
-use lib.ListN.{length, get_or, set, take, drop, length-append}
+use Rattle.std.proofs.Common.{ℕ, zero, suc, ◌+◌, ◌≤◌, ◌<◌, add-one, arith, ◌≡◌, refl, sym, ap, ◌∙◌, Bool, true, false, List, [], ◌∷◌, ◌++◌, append-nil, length, get_or, set, take, drop, length-append}
 use Rattle.dead_store.specs.Stays.{judge, dead_of, without}
 use Rattle.pcode.specs.Block.{blank_stmts}
 use Rattle.vars.proofs.Joining.{put_more}
@@ -17,19 +11,33 @@ abbrev pub some {ℓ} : {A : Type ℓ} → Bool → A → List A
 some true x = []
 some false x = x ∷ []
 
+without_none : {A : Type 0} (ks : List Bool) → let none : List A = [] in without ks none ≡ none
+unfolding without
+without_none [] = refl
+without_none (b ∷ ks) = refl
+
 without_more : {A : Type 0} (ks : List Bool) (xs : List A) (d : A) (i : ℕ) → i < length ks → i < length xs
-    → without (take (suc i) ks) (take (suc i) xs) ≡ without (take i ks) (take i xs) ++ some (get_or ks i false) (get_or xs i d)
+    → without ks (take (suc i) xs) ≡ without ks (take i xs) ++ some (get_or ks i false) (get_or xs i d)
 unfolding without
 without_more [] xs d i h k = absurd (omega arith)
 without_more (b ∷ ks) [] d i h k = absurd (omega arith)
-without_more (true ∷ ks) (x ∷ xs) d zero h k = refl
-without_more (false ∷ ks) (x ∷ xs) d zero h k = refl
+without_more (true ∷ ks) (x ∷ xs) d zero h k = without_none ks
+without_more (false ∷ ks) (x ∷ xs) d zero h k = ap (λ l. x ∷ l) (without_none ks)
 without_more (true ∷ ks) (x ∷ xs) d (suc i) h k = without_more ks xs d i (omega arith) (omega arith)
 without_more (false ∷ ks) (x ∷ xs) d (suc i) h k = ap (λ l. x ∷ l) (without_more ks xs d i (omega arith) (omega arith))
 
+-- flags past the elements don't count
+pub without_append : {A : Type 0} (ks ms : List Bool) (xs : List A) → length ks ≡ length xs → without (ks ++ ms) xs ≡ without ks xs
+unfolding without
+without_append [] ms [] h = without_none ms
+without_append [] ms (x ∷ xs) h = absurd (omega arith)
+without_append (b ∷ ks) ms [] h = absurd (omega arith)
+without_append (true ∷ ks) ms (x ∷ xs) h = without_append ks ms xs (omega arith)
+without_append (false ∷ ks) ms (x ∷ xs) h = ap (λ l. x ∷ l) (without_append ks ms xs (omega arith))
+
 module _ {A : Type 0} (ks : List Bool) (xs bl : List A) (d : A) where
   abbrev pub sofar : ℕ → List A
-  sofar i = without (take i ks) (take i xs)
+  sofar i = without ks (take i xs)
 
   -- of the first i elements the k that are not dead stand in out
   pub record Sifted (i k : ℕ) (out : List A) : Type 0 where
@@ -38,8 +46,7 @@ module _ {A : Type 0} (ks : List Bool) (xs bl : List A) (d : A) where
     pub body : out ≡ sofar i ++ drop k bl
 
   pub sifted_none : (out : List A) → out ≡ bl → Sifted 0 0 out
-  unfolding without
-  sifted_none out e = record { small = omega arith; count = refl; body = e }
+  sifted_none out e = let q : sofar 0 ≡ [] = without_none ks in record { small = omega arith; count = rw q; body = rw q e }
 
   module _ (i k : ℕ) (out : List A) (h : i < length ks) (g : i < length xs) (w : Sifted i k out) where
     next : (b : Bool) → get_or ks i false ≡ b → sofar (i + 1) ≡ sofar i ++ some b (get_or xs i d)

@@ -1,17 +1,12 @@
 -- The walk keeps exactly the statements that stay: the tables say which bytes are overwritten, needed, and read later.
-use Prim.Native.Nat.{ℕ, zero, suc, ◌≤◌, ◌<◌}
-use native.Mathlib.Omega.{arith}
-use mathlib.Core.Path.{◌≡◌, refl, sym, ap, ◌∙◌, subst}
-use mathlib.Core.Bool.{Bool, true, false, not, ◌&&◌, ◌||◌}
-use mathlib.Core.List.{List, [], ◌∷◌, ◌++◌}
-use lib.ListN.{length, get_or, set, take, drop, replicate, drop_of_length-le, take-append-drop}
-use lib.Seq.{drop-cons, take-suc, append_snoc, set_at, length-take-le}
+use Rattle.std.proofs.Common.{ℕ, suc, ◌≤◌, ◌<◌, arith, ◌≡◌, refl, sym, ap, ◌∙◌, subst, Bool, true, false, not, ◌&&◌, ◌||◌, List, [], ◌∷◌, ◌++◌, length, get_or, set, take, drop, drop_of_length-le, take-append-drop, drop-cons, take-suc, length-take-le}
+use lib.Seq.{append_snoc, set_at}
 use Rattle.pcode.specs.Var.{as_operand}
 use Rattle.pcode.specs.Rules.{side_effects}
 use Rattle.pcode.specs.Block.{has_id, blank_stmt}
 use Rattle.pcode.specs.declared.var.VarId.{VarId}
-use Rattle.pcode.specs.declared.var.Output.{Output}
-use Rattle.pcode.specs.declared.var.Output.TheVariants as Out
+use Rattle.pcode.specs.Var.{Output}
+use Rattle.std.specs.declared.option.Option.TheVariants as Out
 use Rattle.pcode.specs.declared.op.CallOp.{CallOp}
 use Rattle.pcode.specs.declared.op.CallOp.TheVariants.{Arg, PcodeOp, Hook, HookIf, TracerLoad, TracerStore}
 use Rattle.pcode.specs.declared.op.Op.{Op}
@@ -22,11 +17,12 @@ use Rattle.vars.proofs.Rows.{ways, has_here, row_below}
 use Rattle.live_tables.specs.declared.rows.Edge.{Edge}
 use Rattle.live_tables.specs.declared.rows.Edge.TheVariants.{Inside, Branch, Label, Marker}
 use Rattle.live_tables.specs.declared.rows.Rows.{Rows}
-use Rattle.live_bytes.specs.Bytes.{has, inside, some_byte}
+use Rattle.live_bytes.specs.Bytes.{inside, some_byte}
 use Rattle.live_tables.specs.Rows.{edge_of, ends, is_marker, part_of, row_in, rows_of, Named}
 use Rattle.dead_store.specs.Stays.{Judged, names, writes, overwritten, read_next, rewritten, read_later, needed, writes_some, stays, judged, judge, dead_of}
-use Rattle.live_tables.specs.Tables.{view, reads_over, across_over, Stepped, no_sets}
-use Rattle.live_bytes.proofs.Bits.{has_zero}
+use Rattle.live_tables.specs.declared.tables.Tables.{Tables}
+use Rattle.live_tables.specs.Tables.{view, reads_over, across_over, Stepped, no_tables}
+use Rattle.live_tables.proofs.Rowwise.{nothing}
 use Rattle.live_bytes.proofs.Runs.{any_none, any_same}
 use Rattle.dead_store.proofs.Places.{Among, output_among, first_among, second_among, no_bytes, names_at, row_small}
 
@@ -121,23 +117,14 @@ no_edge Branch h = cc
 no_edge Label h = cc
 no_edge Marker h = cc
 
-zero_at : (n i : ℕ) → ◌≡◌ {A = ℕ} (get_or (replicate n 0) i 0) 0
-zero_at zero i = refl
-zero_at (suc n) zero = refl
-zero_at (suc n) (suc i) = zero_at n i
-
 module _ (l : List VarId) where
   -- the tables say, for each id, which bytes are overwritten, needed and read later
-  pub record Says (js : List Judged) (l₀ r₀ a₀ : List ℕ) : Type 0 where
-    pub last : (id : VarId) → has_id l id ≡ true → (k : ℕ) → view l₀ (row_of l id) k ≡ overwritten js id k
-    pub reads : (id : VarId) → has_id l id ≡ true → (k : ℕ) → view r₀ (row_of l id) k ≡ needed js id k
-    pub across : (id : VarId) → has_id l id ≡ true → (k : ℕ) → view a₀ (row_of l id) k ≡ read_later js id k
+  pub record Says (js : List Judged) (t₀ : Tables) : Type 0 where
+    pub last : (id : VarId) → has_id l id ≡ true → (k : ℕ) → view t₀.last (row_of l id) k ≡ overwritten js id k
+    pub reads : (id : VarId) → has_id l id ≡ true → (k : ℕ) → view t₀.reads (row_of l id) k ≡ needed js id k
+    pub across : (id : VarId) → has_id l id ≡ true → (k : ℕ) → view t₀.across (row_of l id) k ≡ read_later js id k
 
-  nothing : (i k : ℕ) → view no_sets i k ≡ false
-  unfolding no_sets
-  nothing i k = ap (λ (n : ℕ). has n k) (zero_at 112 i) ∙ has_zero k
-
-  pub says_none : Says [] no_sets no_sets no_sets
+  pub says_none : Says [] no_tables
   unfolding overwritten read_next rewritten read_later
   says_none = record {
     last = λ id h k. nothing (row_of l id) k;
@@ -148,14 +135,14 @@ module _ (l : List VarId) where
   module _ (persist : VarId → Bool) (p : List Bool) (small : length l ≤ 112)
       (keep : (id : VarId) → has_id l id ≡ true → get_or p (row_of l id) false ≡ persist id)
       (s : Stmt) (h : (id : VarId) → has_id (ids_of s) id ≡ true → has_id l id ≡ true) (js : List Judged)
-      (l₀ r₀ a₀ l₁ r₁ a₁ : List ℕ) (y : Says js l₀ r₀ a₀) where
+      (t₀ t₁ : Tables) (y : Says js t₀) where
     some : (o : Output) → Among l (as_operand o) → (f : ℕ → ℕ → Bool) (g : VarId → ℕ → Bool)
         → ((id : VarId) → has_id l id ≡ true → (k : ℕ) → f (row_of l id) k ≡ g id k)
         → some_byte (λ k. inside (part_of (as_operand o)) k && f (row_in l (as_operand o)) k) ≡ writes_some o g
     some Out.None m f g e = any_none 16 _ (λ k n. rw (no_bytes k))
-    some (Out.Var v) m f g e = any_same 16 _ _ (λ k. ap (λ (b : Bool). inside v k && b) (e v.id (m v.id (has_here v.id [] v.id (same_id_refl v.id))) k))
+    some (Out.Some v) m f g e = any_same 16 _ _ (λ k. ap (λ (b : Bool). inside v k && b) (e v.id (m v.id (has_here v.id [] v.id (same_id_refl v.id))) k))
 
-    module _ (live : Bool) (w : Stepped p s (rows_of l s) l₀ r₀ a₀ l₁ r₁ a₁ live) where
+    module _ (live : Bool) (w : Stepped p s (rows_of l s) t₀ t₁ live) where
       pub live_stays : live ≡ stays persist s js
       unfolding rows_of
       live_stays =
@@ -164,11 +151,11 @@ module _ (l : List VarId) where
           (λ t. q ∙ rw (edge_effects s.op t))
           (λ t. q ∙ ap (λ (b : Bool). side_effects s.op || b)
           (some s.output (output_among l s h)
-          (λ i k. (get_or p i false && not (not (ends (edge_of s.op)) && view l₀ i k)) || reads_over (edge_of s.op) (view r₀ i k) (view a₀ i k))
+          (λ i k. (get_or p i false && not (not (ends (edge_of s.op)) && view t₀.last i k)) || reads_over (edge_of s.op) (view t₀.reads i k) (view t₀.across i k))
           (λ id k. (persist id && not (overwritten js id k)) || needed js id k)
           (λ id m k. live_bits (edge_of s.op) (persist id) (overwritten js id k) (needed js id k) _ _ _ _ (no_edge (edge_of s.op) t) (keep id m) (y.last id m k) (y.reads id m k))))
 
-      pub says_more : Says (judged persist s js) l₁ r₁ a₁
+      pub says_more : Says (judged persist s js) t₁
       unfolding rows_of overwritten read_next rewritten read_later
       says_more = record {
         last = λ id m k.
@@ -189,36 +176,36 @@ mark_more : (l m : List Bool) (j : ℕ) (b : Bool) → j < length l → set (tak
 mark_more l m j b h =
     rw (take-suc l j false h, append_snoc (take j l) (get_or l j false) m) (set_at (take j l) (get_or l j false) m b j (length-take-le j l (omega arith)))
 
-pub stepped_of_lem : {s t : Stmt} {w x : Rows} (p : List Bool) (l r a l₁ r₁ a₁ : List ℕ) (live : Bool) → s ≡ t → w ≡ x → Stepped p s w l r a l₁ r₁ a₁ live → Stepped p t x l r a l₁ r₁ a₁ live
-stepped_of_lem {s} {t} {w} {x} p l r a l₁ r₁ a₁ live d e f =
-    subst (λ (u : Rows). Stepped p t u l r a l₁ r₁ a₁ live) e (subst (λ (u : Stmt). Stepped p u w l r a l₁ r₁ a₁ live) d f)
+pub stepped_of_lem : {s t : Stmt} {w x : Rows} (p : List Bool) (t₀ t₁ : Tables) (live : Bool) → s ≡ t → w ≡ x → Stepped p s w t₀ t₁ live → Stepped p t x t₀ t₁ live
+stepped_of_lem {s} {t} {w} {x} p t₀ t₁ live d e f =
+    subst (λ (u : Rows). Stepped p t u t₀ t₁ live) e (subst (λ (u : Stmt). Stepped p u w t₀ t₁ live) d f)
 
 -- before statement i: the tables, and the marks written from i to n
 module _ (l : List VarId) (persist : VarId → Bool) (p : List Bool) (ss : List Stmt) (n : ℕ) (old : List Bool) where
-  pub record Walked (i : ℕ) (l₀ r₀ a₀ : List ℕ) (dead : List Bool) : Type 0 where
-    pub says : Says l (judge persist (drop i ss)) l₀ r₀ a₀
+  pub record Walked (i : ℕ) (t₀ : Tables) (dead : List Bool) : Type 0 where
+    pub says : Says l (judge persist (drop i ss)) t₀
     pub marks : dead ≡ take i old ++ (dead_of (judge persist (drop i ss)) ++ drop n old)
 
   module _ (e : length ss ≡ n) where
-    pub walked_none : (l₀ r₀ a₀ : List ℕ) → l₀ ≡ no_sets → r₀ ≡ no_sets → a₀ ≡ no_sets → Walked n l₀ r₀ a₀ old
+    pub walked_none : (t₀ : Tables) → t₀ ≡ no_tables → Walked n t₀ old
     unfolding judge dead_of
-    walked_none l₀ r₀ a₀ x y z =
+    walked_none t₀ x =
         let g : drop n ss ≡ [] = drop_of_length-le ss {i = n} (omega arith) in
-        rw (x, y, z) (record { says = rw g (says_none l); marks = rw g (sym (take-append-drop n old)) })
+        rw x (record { says = rw g (says_none l); marks = rw g (sym (take-append-drop n old)) })
 
     module _ (names : Named l ss) (keep : (id : VarId) → has_id l id ≡ true → get_or p (row_of l id) false ≡ persist id) where
-      pub walked_more : (i j : ℕ) (l₀ r₀ a₀ l₁ r₁ a₁ : List ℕ) (dead : List Bool) (live : Bool) → i ≡ suc j → i ≤ n → n ≤ length old
-          → Walked i l₀ r₀ a₀ dead → Stepped p (get_or ss j blank_stmt) (rows_of l (get_or ss j blank_stmt)) l₀ r₀ a₀ l₁ r₁ a₁ live → Walked j l₁ r₁ a₁ (set dead j (not live))
+      pub walked_more : (i j : ℕ) (t₀ t₁ : Tables) (dead : List Bool) (live : Bool) → i ≡ suc j → i ≤ n → n ≤ length old
+          → Walked i t₀ dead → Stepped p (get_or ss j blank_stmt) (rows_of l (get_or ss j blank_stmt)) t₀ t₁ live → Walked j t₁ (set dead j (not live))
       unfolding judge dead_of
-      walked_more i j l₀ r₀ a₀ l₁ r₁ a₁ dead live q k m w t =
+      walked_more i j t₀ t₁ dead live q k m w t =
           let s = get_or ss j blank_stmt in
           let h : (id : VarId) → has_id (ids_of s) id ≡ true → has_id l id ≡ true = λ id. names.names j id (omega arith) in
           let d : drop j ss ≡ s ∷ drop i ss = drop-cons ss j blank_stmt (omega arith) ∙ rw q in
-          let x = live_stays l persist p names.small keep s h (judge persist (drop i ss)) l₀ r₀ a₀ l₁ r₁ a₁ w.says live t in
+          let x = live_stays l persist p names.small keep s h (judge persist (drop i ss)) t₀ t₁ w.says live t in
           record {
-            says = rw d (says_more l persist p names.small keep s h (judge persist (drop i ss)) l₀ r₀ a₀ l₁ r₁ a₁ w.says live t);
+            says = rw d (says_more l persist p names.small keep s h (judge persist (drop i ss)) t₀ t₁ w.says live t);
             marks = rw (w.marks, d, x, q) (mark_more old (dead_of (judge persist (drop (suc j) ss)) ++ drop n old) j _ (omega arith));
           }
 
-    pub walked_all : (i : ℕ) (l₀ r₀ a₀ : List ℕ) (dead : List Bool) → i ≡ 0 → Walked i l₀ r₀ a₀ dead → dead ≡ dead_of (judge persist ss) ++ drop n old
-    walked_all i l₀ r₀ a₀ dead q w = w.marks ∙ rw q
+    pub walked_all : (i : ℕ) (t₀ : Tables) (dead : List Bool) → i ≡ 0 → Walked i t₀ dead → dead ≡ dead_of (judge persist ss) ++ drop n old
+    walked_all i t₀ dead q w = w.marks ∙ rw q

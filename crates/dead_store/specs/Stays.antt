@@ -6,8 +6,8 @@ use Rattle.pcode.specs.Block.{blank_stmts, held, lasting}
 use Rattle.pcode.specs.declared.var.VarId.{VarId}
 use Rattle.pcode.specs.declared.var.Operand.{Operand}
 use Rattle.pcode.specs.declared.var.Operand.TheVariants.{None, Const, Var}
-use Rattle.pcode.specs.declared.var.Output.{Output}
-use Rattle.pcode.specs.declared.var.Output.TheVariants as Out
+use Rattle.pcode.specs.Var.{Output}
+use Rattle.std.specs.declared.option.Option.TheVariants as Out
 use Rattle.pcode.specs.declared.block.Stmt.{Stmt}
 use Rattle.pcode.specs.declared.block.Block.{Block}
 use Rattle.pcode.specs.declared.block.Marks.{Marks}
@@ -81,7 +81,7 @@ needed js id k = read_next js id k || (not (rewritten js id k) && read_later js 
 -- the statement writes a byte that passes a test
 abbrev pub writes_some : Output → (VarId → ℕ → Bool) → Bool
 writes_some Out.None f = false
-writes_some (Out.Var v) f = some_byte (λ k. inside v k && f v.id k)
+writes_some (Out.Some v) f = some_byte (λ k. inside v k && f v.id k)
 
 -- a statement stays if it has side effects; or writes a byte of a persisting variable that nothing overwrites before its stretch ends, or
 -- a byte that is needed

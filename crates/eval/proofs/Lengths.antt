@@ -1,11 +1,9 @@
 -- Evaluating keeps the output's length, whatever holds the bits. Assumes nothing.
-use Rattle.std.proofs.Common.{◌≡◌, ℕ, zero, suc, ◌-◌, ◌*◌, ◌≤◌, Bool, true, false, eqb, ltb, List, length, replicate, sym, refl, ◌∙◌, arith, ltb-false, eqb-true}
+use Rattle.std.proofs.Common.{Option, Some, None, Err, ◌≡◌, ℕ, zero, suc, ◌-◌, ◌*◌, ◌≤◌, Bool, true, false, eqb, ltb, List, length, replicate, sym, refl, ◌∙◌, arith, ltb-false, eqb-true}
 use lib.ListN.{length-replicate, length-map}
 use Rattle.bit.specs.Bits.{pick}
 use Rattle.bit.specs.declared.Bit.{Bit}
 use Rattle.bit.specs.declared.Bit.TheVariants.{Zero}
-use Rattle.bit_vec.specs.declared.known.Constant.{Constant}
-use Rattle.bit_vec.specs.declared.known.Constant.TheVariants.{Known, Open}
 use Rattle.bit_vec.specs.declared.ripple.Ripple.{Ripple}
 use Rattle.bit_vec.specs.declared.ripple.Ripple.TheVariants.{Add, Sub}
 use Rattle.bit_vec.specs.declared.logic.Logic.{Logic}
@@ -28,7 +26,7 @@ use Rattle.pcode.specs.declared.op.CallOp.TheVariants.{Arg, PcodeOp, Hook, HookI
 use Rattle.pcode.specs.declared.op.Op.{Op}
 use Rattle.pcode.specs.declared.op.Op.TheVariants.{Trap, InstructionMarker, PcodeLabel, PcodeBranch, Branch, Load, Store, Call, Select, Subpiece, Opaque, Float, One, Two, Divide, Shift, Rotate, Compare, Bool as BoolOf}
 use Rattle.pcode.specs.Rules.{sizes_one, size_rule}
-use Rattle.eval.specs.declared.Evaluated.TheVariants.{BadSizes, RotateTooFar}
+use Rattle.eval.specs.declared.EvalError.TheVariants.{BadSizes, RotateTooFar}
 use Rattle.eval.specs.Held.{Held, read_all, write_all, zero_of, unknown_of, truth_of}
 use Rattle.eval.specs.Sizes.{fits_bits}
 use Rattle.eval.specs.Eval.{number_or, one_of, mul_by_ones, mul_known, mul_by, two_of, shift_bits, turn_of, rotate_by, call_of, done, family_of, outcome_of}
@@ -45,9 +43,9 @@ module _ {A : Type 0} (h : Held A) where
   truths : (b : Bit) (n : ℕ) → length (truth_of h b n) ≡ n
   truths b n = length-map (truth n b) h.write ∙ length_truth n b
 
-  numbers : (c : Constant) (n : ℕ) → length (number_or h c n) ≡ n
-  numbers (Known v) n = length-map (digits n v) h.write ∙ length_digits n v
-  numbers Open n = all n
+  numbers : (c : Option ℕ) (n : ℕ) → length (number_or h c n) ≡ n
+  numbers (Some v) n = length-map (digits n v) h.write ∙ length_digits n v
+  numbers None n = all n
 
   ripples : (op : Ripple) (xs ys : List Bit) (n : ℕ) → length xs ≡ n → length ys ≡ n → length (write_all h (ripple_bits op xs ys)) ≡ n
   ripples op xs ys n p q = length-map (ripple_bits op xs ys) h.write ∙ length_scan digit_b (carry_b op) Zero xs ys (p ∙ sym q) ∙ p
@@ -65,21 +63,21 @@ module _ {A : Type 0} (h : Held A) where
   ones IntCountLeadingZeroes a b n f = numbers (leading_zeros (read_all h a)) n
   ones BoolNot a b n f = truths _ n
 
-  by_ones : (c : Constant) (k : ℕ) (other : List A) (n : ℕ) → k ≤ n → length other ≡ n → length (mul_by_ones h c k other n) ≡ n
-  by_ones (Known zero) k other n l e = length-replicate n (zero_of h)
-  by_ones (Known (suc zero)) k other n l e = length_up (zero_of h) k other (omega arith) ∙ e
-  by_ones (Known (suc (suc m))) k other n l e = all n
-  by_ones Open k other n l e = all n
+  by_ones : (c : Option ℕ) (k : ℕ) (other : List A) (n : ℕ) → k ≤ n → length other ≡ n → length (mul_by_ones h c k other n) ≡ n
+  by_ones (Some zero) k other n l e = length-replicate n (zero_of h)
+  by_ones (Some (suc zero)) k other n l e = length_up (zero_of h) k other (omega arith) ∙ e
+  by_ones (Some (suc (suc m))) k other n l e = all n
+  by_ones None k other n l e = all n
 
   knowns : (known other : List A) (n : ℕ) → length known ≡ n → length other ≡ n → length (mul_known h known other n) ≡ n
   knowns known other n p q =
       by_ones (count_ones (read_all h known)) (trailing_zeros (read_all h known)) other n (omega (arith, trailing_within (read_all h known), read_length known)) q
 
-  muls : (c d : Constant) (a b : List A) (n : ℕ) → length a ≡ n → length b ≡ n → length (mul_by h c d a b n) ≡ n
-  muls (Known x) (Known y) a b n p q = length-map (digits n (x * y)) h.write ∙ length_digits n (x * y)
-  muls (Known x) Open a b n p q = knowns a b n p q
-  muls Open (Known y) a b n p q = knowns b a n q p
-  muls Open Open a b n p q = all n
+  muls : (c d : Option ℕ) (a b : List A) (n : ℕ) → length a ≡ n → length b ≡ n → length (mul_by h c d a b n) ≡ n
+  muls (Some x) (Some y) a b n p q = length-map (digits n (x * y)) h.write ∙ length_digits n (x * y)
+  muls (Some x) None a b n p q = knowns a b n p q
+  muls None (Some y) a b n p q = knowns b a n q p
+  muls None None a b n p q = all n
 
   twos : (k : TwoOp) (a b : List A) (n : ℕ) → (length a ≡ n) × (length b ≡ n) → length (two_of h k a b n) ≡ n
   twos IntAdd a b n s = ripples Add (read_all h a) (read_all h b) n (read_length a ∙ s.0) (read_length b ∙ s.1)
@@ -98,13 +96,13 @@ module _ {A : Type 0} (h : Held A) where
   turns IntRotateLeft s a l = length_rotate s a l
   turns IntRotateRight s a l = length_rotate (length a - s) a (omega arith)
 
-  rotates : (k : RotateOp) (c : Constant) (a old : List A) → length a ≡ length old → length (rotate_by h k c a old).cells ≡ length old
-  rotates k (Known s) a old e = go (ltb (length a) s) refl
+  rotates : (k : RotateOp) (c : Option ℕ) (a old : List A) → length a ≡ length old → length (rotate_by h k c a old).cells ≡ length old
+  rotates k (Some s) a old e = go (ltb (length a) s) refl
     where
-      go : (t : Bool) → ltb (length a) s ≡ t → length (pick t (record { answer = RotateTooFar; cells = old }) (done (turn_of k s a))).cells ≡ length old
+      go : (t : Bool) → ltb (length a) s ≡ t → length (pick t (record { answer = Err RotateTooFar; cells = old }) (done (turn_of k s a))).cells ≡ length old
       go true p = refl
       go false p = turns k s a (ltb-false (length a) s p) ∙ e
-  rotates k Open a old e = all (length old)
+  rotates k None a old e = all (length old)
 
   calls : (k : CallOp) (old : List A) → length (call_of h k old) ≡ length old
   calls Arg old = refl
@@ -140,7 +138,7 @@ module _ {A : Type 0} (h : Held A) where
   length_outcome op a b old = go (eqb (length old) 0) (fits_bits (size_rule op) (length a) (length b) (length old)) refl
     where
       go : (s t : Bool) → fits_bits (size_rule op) (length a) (length b) (length old) ≡ t
-          → length (pick s (done old) (pick t (family_of h op a b old) (record { answer = BadSizes; cells = old }))).cells ≡ length old
+          → length (pick s (done old) (pick t (family_of h op a b old) (record { answer = Err BadSizes; cells = old }))).cells ≡ length old
       go true t p = refl
       go false true p = families op a b old p
       go false false p = refl

@@ -1,10 +1,9 @@
 -- 01's eight cases, as one table.
-use Rattle.std.specs.Prelude.{◌≡◌, List, ◌∷◌, ◌++◌, length, replicate}
+use Rattle.std.specs.Prelude.{None, ◌≡◌, List, ◌∷◌, ◌++◌, length, replicate}
 use Rattle.bit.specs.Bits.{not_b}
 use Rattle.bit.specs.declared.Expr.{Expr}
 use Rattle.bit.specs.declared.Bit.{Bit}
 use Rattle.bit.specs.declared.Bit.TheVariants.{Zero, One, Unknown, Expr as Sym}
-use Rattle.bit_vec.specs.declared.known.Constant.TheVariants.{Open}
 use Rattle.bit_vec.specs.Moves.{digits}
 use Rattle.bit_vec.specs.Known.{const_of}
 use Rattle.pcode.specs.declared.op.Op.{Op}
@@ -44,6 +43,6 @@ pub record Cases (e : Expr) : Type 0 where
   -- (6) least amount 2, undecided: low two bits zero, six unknown
   pub shifted_some : Gives (Shift IntLeft) (digits 8 255) (byte (Sym e) One Zero Zero) (replicate 2 Zero ++ replicate 6 Unknown)
   -- (7) nine zero bytes: no known constant
-  pub too_wide : const_of (replicate 72 Zero) ≡ Open
+  pub too_wide : const_of (replicate 72 Zero) ≡ None
   -- (8) one byte 1 rotated left by 1 as ported: 128
   pub rotated : Gives (Rotate IntRotateLeft) (digits 8 1) (digits 8 1) (digits 8 128)

@@ -1,10 +1,8 @@
 -- What each operation gives on symbolic bits, by 01's "Symbolic rules".
-use Rattle.std.specs.Prelude.{ℕ, zero, suc, ◌*◌, List, map, length, drop, replicate, ◌==◌, nat_lt}
+use Rattle.std.specs.Prelude.{Option, Some, None, Result, Ok, Err, ℕ, zero, suc, ◌*◌, List, map, length, drop, replicate, ◌==◌, nat_lt}
 use Rattle.bit.specs.Bits.{pick, not_b, and_b, or_b, xor_b}
 use Rattle.bit.specs.declared.Bit.{Bit}
 use Rattle.bit.specs.declared.Bit.TheVariants.{Zero}
-use Rattle.bit_vec.specs.declared.known.Constant.{Constant}
-use Rattle.bit_vec.specs.declared.known.Constant.TheVariants.{Known, Open}
 use Rattle.bit_vec.specs.declared.logic.Logic.TheVariants as Logic
 use Rattle.bit_vec.specs.declared.ripple.Ripple.TheVariants.{Add, Sub}
 use Rattle.bit_vec.specs.Lists.{logic_b, zip_bits, ripple_bits, last_place, add_overflow, sub_overflow, eq_bits}
@@ -27,15 +25,15 @@ use Rattle.pcode.specs.declared.op.CallOp.TheVariants.{Arg, PcodeOp, Hook, HookI
 use Rattle.pcode.specs.declared.op.Op.{Op}
 use Rattle.pcode.specs.declared.op.Op.TheVariants.{Trap, InstructionMarker, PcodeLabel, PcodeBranch, Branch, Load, Store, Call, Select, Subpiece, Opaque, Float, One, Two, Divide, Shift, Rotate, Compare, Bool as BoolOf}
 use Rattle.pcode.specs.Rules.{size_rule}
-use Rattle.eval.specs.declared.Evaluated.{Evaluated}
-use Rattle.eval.specs.declared.Evaluated.TheVariants.{Done, RotateTooFar, BadSizes}
+use Rattle.eval.specs.declared.EvalError.{EvalError}
+use Rattle.eval.specs.declared.EvalError.TheVariants.{RotateTooFar, BadSizes}
 use Rattle.eval.specs.Held.{Held, read_all, write_all, zero_of, unknown_of, all_unknown, lowest_of, truth_of}
 use Rattle.eval.specs.Sizes.{fits_bits}
 
 -- a known number cut to n bits, else all unknown
-abbrev pub number_or : {A : Type 0} → Held A → Constant → ℕ → List A
-number_or h (Known v) n = write_all h (digits n v)
-number_or h Open n = all_unknown h n
+abbrev pub number_or : {A : Type 0} → Held A → Option ℕ → ℕ → List A
+number_or h (Some v) n = write_all h (digits n v)
+number_or h None n = all_unknown h n
 
 -- `Subpiece(k)`: from byte k on, cut to n bits, zero past the end
 abbrev pub subpiece_of : {A : Type 0} → Held A → ℕ → List A → ℕ → List A
@@ -53,22 +51,22 @@ one_of h IntCountLeadingZeroes a n = number_or h (leading_zeros (read_all h a)) 
 one_of h BoolNot a n = truth_of h (not_b (lowest_of h a)) n
 
 -- by how many ones the known operand has: none, it is zero; one, it is a power of two; else unknown
-abbrev pub mul_by_ones : {A : Type 0} → Held A → Constant → ℕ → List A → ℕ → List A
-mul_by_ones h (Known zero) k other n = replicate n (zero_of h)
-mul_by_ones h (Known (suc zero)) k other n = up (zero_of h) k other
-mul_by_ones h (Known (suc (suc m))) k other n = all_unknown h n
-mul_by_ones h Open k other n = all_unknown h n
+abbrev pub mul_by_ones : {A : Type 0} → Held A → Option ℕ → ℕ → List A → ℕ → List A
+mul_by_ones h (Some zero) k other n = replicate n (zero_of h)
+mul_by_ones h (Some (suc zero)) k other n = up (zero_of h) k other
+mul_by_ones h (Some (suc (suc m))) k other n = all_unknown h n
+mul_by_ones h None k other n = all_unknown h n
 
 -- one known zero, zero; one known power of two, left shift; else unknown
 abbrev pub mul_known : {A : Type 0} → Held A → List A → List A → ℕ → List A
 mul_known h known other n = mul_by_ones h (count_ones (read_all h known)) (trailing_zeros (read_all h known)) other n
 
 -- by which operands are known
-abbrev pub mul_by : {A : Type 0} → Held A → Constant → Constant → List A → List A → ℕ → List A
-mul_by h (Known x) (Known y) a b n = write_all h (digits n (x * y))
-mul_by h (Known x) Open a b n = mul_known h a b n
-mul_by h Open (Known y) a b n = mul_known h b a n
-mul_by h Open Open a b n = all_unknown h n
+abbrev pub mul_by : {A : Type 0} → Held A → Option ℕ → Option ℕ → List A → List A → ℕ → List A
+mul_by h (Some x) (Some y) a b n = write_all h (digits n (x * y))
+mul_by h (Some x) None a b n = mul_known h a b n
+mul_by h None (Some y) a b n = mul_known h b a n
+mul_by h None None a b n = all_unknown h n
 
 -- `IntMul`: both known, product, cut to n bits
 abbrev pub mul_of : {A : Type 0} → Held A → List A → List A → ℕ → List A
@@ -91,12 +89,12 @@ shift_bits h IntSignedRight a b = right_of (last_of (zero_of h) a) (unknown_of h
 
 -- what evaluating comes to: its answer, and the output's cells afterwards
 pub record Outcome (A : Type 0) : Type 0 where
-  pub answer : Evaluated
+  pub answer : Result (Unit {0}) EvalError
   pub cells : List A
 
 -- an answer without refusal
 abbrev pub done : {A : Type 0} → List A → Outcome A
-done xs = record { answer = Done; cells = xs }
+done xs = record { answer = Ok tt; cells = xs }
 
 -- a rotate by s
 abbrev pub turn_of : {A : Type 0} → RotateOp → ℕ → List A → List A
@@ -104,9 +102,9 @@ turn_of IntRotateLeft s a = rotate_left s a
 turn_of IntRotateRight s a = rotate_right s a
 
 -- s not known, all unknown; a known s above the width is refused
-abbrev pub rotate_by : {A : Type 0} → Held A → RotateOp → Constant → List A → List A → Outcome A
-rotate_by h k (Known s) a old = pick (nat_lt (length a) s) (record { answer = RotateTooFar; cells = old }) (done (turn_of k s a))
-rotate_by h k Open a old = done (all_unknown h (length old))
+abbrev pub rotate_by : {A : Type 0} → Held A → RotateOp → Option ℕ → List A → List A → Outcome A
+rotate_by h k (Some s) a old = pick (nat_lt (length a) s) (record { answer = Err RotateTooFar; cells = old }) (done (turn_of k s a))
+rotate_by h k None a old = done (all_unknown h (length old))
 
 -- by the amount, if it is known
 abbrev pub rotate_of : {A : Type 0} → Held A → RotateOp → List A → List A → List A → Outcome A
@@ -173,4 +171,4 @@ outcome_of h op a b old =
     (done old)
     (pick (fits_bits (size_rule op) (length a) (length b) (length old))
     (family_of h op a b old)
-    (record { answer = BadSizes; cells = old }))
+    (record { answer = Err BadSizes; cells = old }))

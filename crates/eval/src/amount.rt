@@ -3,9 +3,9 @@ ghost use Rattle.std.specs.Prelude.{◌≡◌, ◌≤◌, length};
 ghost use Rattle.eval.specs.Held.{coded};
 ghost use Rattle.eval.specs.Eval.{shift_bits, turn_of, rotate_of};
 
-use crate::Evaluated;
+use crate::EvalError;
 use bit::Bit;
-use bit_vec::known::{Constant, get_const};
+use bit_vec::known::get_const;
 use bit_vec::moves::fill;
 use bit_vec::shift::{rotate_left, rotate_right, shift_left, shift_right, shift_right_signed};
 use pcode::op::{RotateOp, ShiftOp};
@@ -40,22 +40,19 @@ fn turn(op: RotateOp, a: &[u64], s: usize, out: &mut [u64])
     }
 }
 
-pub fn eval_rotate(op: RotateOp, a: &[u64], b: &[u64], out: &mut [u64]) -> Evaluated
+pub fn eval_rotate(op: RotateOp, a: &[u64], b: &[u64], out: &mut [u64]) -> Result<(), EvalError>
     requires { length a.now ≡ length out.old }
     ensures { record { answer = result; cells = out.new } ≡ rotate_of coded op a.now b.now out.old }
 {
     match get_const(b) {
-        Constant::Known(n) => {
+        Some(n) => {
             let s = n as usize;
             if a.len() < s {
-                return Evaluated::RotateTooFar;
+                return Err(EvalError::RotateTooFar);
             }
             turn(op, a, s, out);
-            Evaluated::Done
         }
-        Constant::Open => {
-            fill(out, Bit::Unknown);
-            Evaluated::Done
-        }
+        None => fill(out, Bit::Unknown),
     }
+    Ok(())
 }

@@ -16,16 +16,14 @@ fn carry(a: &[u64], b: &[u64], op: Ripple) -> Bit
     requires { length a.now ≡ length b.now }
     ensures { result ≡ (last_place op (bits a.now) (bits b.now)).carry }
 {
-    let p = last_place(a, b, op);
-    p.carry
+    last_place(a, b, op).carry
 }
 
 fn signed_less(a: &[u64], b: &[u64]) -> Bit
     requires { length a.now ≡ length b.now }
     ensures { result ≡ signed_less (bits a.now) (bits b.now) }
 {
-    let p = last_place(a, b, Ripple::Sub);
-    let sign = p.digit;
+    let sign = last_place(a, b, Ripple::Sub).digit;
     sign.xor(sub_overflow(a, b))
 }
 
@@ -53,6 +51,7 @@ pub fn eval_compare(op: CompareOp, a: &[u64], b: &[u64], out: &mut [u64])
     set_bool(out, compare(op, a, b));
 }
 
+// `BoolOp` and bit_vec's `Logic` name the same three; a conversion of one to the other would be this match.
 fn bool_of(op: BoolOp, x: Bit, y: Bit) -> Bit
     ensures { result ≡ bool_b op x y }
 {

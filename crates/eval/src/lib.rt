@@ -25,9 +25,8 @@ use bit::Bit;
 use bit_vec::moves::fill;
 use pcode::op::{CallOp, Op};
 
-#[derive(Clone, Copy)]
-pub enum Evaluated {
-    Done,
+#[derive(Clone, Copy, PartialEq, Eq)]
+pub enum EvalError {
     // An evaluated rotate has a known amount above the width in bits: 01's refusal 8.
     RotateTooFar,
     // The slices' lengths break the operation's size rule.
@@ -39,53 +38,45 @@ fn eval_call(op: CallOp, out: &mut [u64])
     ensures { out.new ≡ call_of coded op out.old }
 {
     match op {
-        CallOp::Arg => {}
-        CallOp::PcodeOp => fill(out, Bit::Unknown),
-        CallOp::Hook => fill(out, Bit::Unknown),
-        CallOp::HookIf => fill(out, Bit::Unknown),
-        CallOp::TracerLoad => fill(out, Bit::Unknown),
-        CallOp::TracerStore => {}
+        CallOp::Arg | CallOp::TracerStore => {}
+        CallOp::PcodeOp | CallOp::Hook | CallOp::HookIf | CallOp::TracerLoad => {
+            fill(out, Bit::Unknown)
+        }
     }
 }
 
 // An operation other than a rotate, whose sizes are right.
-fn eval_family(op: Op, a: &[u64], b: &[u64], out: &mut [u64]) -> Evaluated
+fn eval_family(op: Op, a: &[u64], b: &[u64], out: &mut [u64]) -> Result<(), EvalError>
     requires { fits_bits (size_rule op) (length a.now) (length b.now) (length out.old) ≡ true }
     ensures { record { answer = result; cells = out.new } ≡ family_of coded op a.now b.now out.old }
 {
     match op {
-        Op::Trap(_) => {}
-        Op::InstructionMarker => {}
-        Op::PcodeLabel(_) => {}
-        Op::PcodeBranch(_) => {}
-        Op::Branch(_) => {}
-        Op::Load(_) => fill(out, Bit::Unknown),
-        Op::Store(_) => {}
+        Op::Trap(_) | Op::InstructionMarker | Op::Store(_) => {}
+        Op::PcodeLabel(_) | Op::PcodeBranch(_) | Op::Branch(_) => {}
+        Op::Load(_) | Op::Select(_) | Op::Opaque(_) | Op::Float(_) | Op::Divide(_) => {
+            fill(out, Bit::Unknown)
+        }
         Op::Call(k, _) => eval_call(k, out),
-        Op::Select(_) => fill(out, Bit::Unknown),
         Op::Subpiece(k) => subpiece(k, a, out),
-        Op::Opaque(_) => fill(out, Bit::Unknown),
-        Op::Float(_) => fill(out, Bit::Unknown),
         Op::One(k) => eval_one(k, a, out),
         Op::Two(k) => eval_two(k, a, b, out),
-        Op::Divide(_) => fill(out, Bit::Unknown),
         Op::Shift(k) => eval_shift(k, a, b, out),
         Op::Rotate(k) => return eval_rotate(k, a, b, out),
         Op::Compare(k) => eval_compare(k, a, b, out),
         Op::Bool(k) => eval_bool(k, a, b, out),
     }
-    Evaluated::Done
+    Ok(())
 }
 
 // What `op` gives on the bits of `a` and `b`, into `out`. A refusal, and an empty `out`, leave everything as it was.
-pub fn eval(op: Op, a: &[u64], b: &[u64], out: &mut [u64]) -> Evaluated
+pub fn eval(op: Op, a: &[u64], b: &[u64], out: &mut [u64]) -> Result<(), EvalError>
     ensures { record { answer = result; cells = out.new } ≡ outcome_of coded op a.now b.now out.old }
 {
-    if out.len() == 0 {
-        return Evaluated::Done;
+    if out.is_empty() {
+        return Ok(());
     }
-    if fits(op.size_rule(), a.len(), b.len(), out.len()) {
-        return eval_family(op, a, b, out);
+    if !fits(op.size_rule(), a.len(), b.len(), out.len()) {
+        return Err(EvalError::BadSizes);
     }
-    Evaluated::BadSizes
+    eval_family(op, a, b, out)
 }

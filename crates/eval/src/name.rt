@@ -11,17 +11,12 @@ fn name_bit(b: Bit, id: OutputExprId, i: usize) -> Bit
     ensures { result ≡ name_b id i b }
 {
     match b {
-        Bit::Zero => Bit::Zero,
-        Bit::One => Bit::One,
-        Bit::Unknown => {
-            let offset = (i % 256) as u8;
-            Bit::Expr(Expr {
-                id: id,
-                offset: offset,
-                invert: false,
-            })
-        }
-        Bit::Expr(e) => Bit::Expr(e),
+        Bit::Unknown => Bit::Expr(Expr {
+            id,
+            offset: (i % 256) as u8,
+            invert: false,
+        }),
+        _ => b,
     }
 }
 
@@ -29,11 +24,8 @@ fn name_bit(b: Bit, id: OutputExprId, i: usize) -> Bit
 pub fn name(out: &mut [u64], id: OutputExprId)
     ensures { out.new ≡ codes (name_from id 0 (bits out.old)) }
 {
-    let mut i = 0;
-    while i < out.len() {
-        let x = Bit::decode(out[i]);
-        let y = name_bit(x, id, i);
-        out[i] = y.encode();
-        i += 1;
+    for (i, x) in out.iter_mut().enumerate() {
+        let y = name_bit(Bit::decode(*x), id, i);
+        *x = y.encode();
     }
 }

@@ -6,7 +6,7 @@ ghost use Rattle.eval.specs.Sizes.{fits_bits};
 ghost use Rattle.eval.specs.Eval.{number_or, subpiece_of, one_of};
 
 use bit::Bit;
-use bit_vec::known::{Constant, count_leading_zeros, count_ones};
+use bit_vec::known::{count_leading_zeros, count_ones};
 use bit_vec::logic::not;
 use bit_vec::moves::{at, copy_any, fill, set_bool, set_const, sign};
 use bit_vec::ripple::{Ripple, ripple_in};
@@ -38,12 +38,12 @@ pub fn subpiece(k: u16, a: &[u64], out: &mut [u64])
 }
 
 // A count, cut to the output, or unknown.
-fn set_count(out: &mut [u64], count: Constant)
+fn set_count(out: &mut [u64], count: Option<u64>)
     ensures { out.new ≡ number_or coded count (length out.old) }
 {
     match count {
-        Constant::Known(n) => set_const(out, n),
-        Constant::Open => fill(out, Bit::Unknown),
+        Some(n) => set_const(out, n),
+        None => fill(out, Bit::Unknown),
     }
 }
 

@@ -1,8 +1,8 @@
 // Where an operand's bits stand: a part of the variable store or of the row that holds constants.
-ghost use Rattle.std.specs.Prelude.{◌≡◌, ◌+◌, ◌*◌, ◌≤◌, min, length, take, drop};
+ghost use Rattle.std.specs.Prelude.{◌≡◌, ◌+◌, ◌*◌, length, take, drop};
 ghost use Rattle.eval.specs.Operand.{bits_of};
 
-// An operand's place: none, the lowest bytes of the constant row, or bytes of a variable's row of the store.
+// An operand's place, by the cases of pcode's `Operand`: none, the lowest bytes of the constant row, or bytes of a variable's row of the store.
 #[derive(Clone, Copy)]
 pub enum Slot {
     None,
@@ -10,27 +10,13 @@ pub enum Slot {
     Var { row: u16, offset: u8, bytes: u8 },
 }
 
-fn lesser(a: usize, b: usize) -> usize
-    ensures { result ≡ min a b }
-{
-    if a <= b { a } else { b }
-}
-
-fn inside(s: &[u64], from: usize, n: usize) -> &[u64]
-    requires { from + n ≤ length s.now }
-    ensures { result.now ≡ take n (drop from s.now) }
-{
-    let end = from + n;
-    &s[from..end]
-}
-
 // The part of `s` from `from` on, `n` long, as far as `s` goes.
 fn part(s: &[u64], from: usize, n: usize) -> &[u64]
     ensures { result.now ≡ take n (drop from s.now) }
 {
-    let start = lesser(from, s.len());
-    let count = lesser(n, s.len() - start);
-    inside(s, start, count)
+    let start = from.min(s.len());
+    let end = start + n.min(s.len() - start);
+    &s[start..end]
 }
 
 fn const_bits(consts: &[u64], bytes: u8) -> &[u64]

@@ -19,12 +19,9 @@ fn row() -> [u64; 128]
 
 fn replay(list: &[u8], a: &mut [u64], b: &mut [u64], out: &mut [u64], want: &mut [u64]) -> Tally {
     let mut tally = Tally::NONE;
-    let mut at = 0;
-    while at < list.len() {
-        let end = record_fields::stop(list, at, b'\n');
-        let same = cases::agrees(&list[at..end], a, b, out, want);
-        tally = tally.with(same);
-        at = end + 1;
+    for line in list.split_inclusive(|b| *b == b'\n') {
+        let record = line.strip_suffix(b"\n").unwrap_or(line);
+        tally = tally.with(cases::agrees(record, a, b, out, want));
     }
     tally
 }

@@ -1,56 +1,19 @@
 // The fields of a record, parted by tabs, and the numbers in them.
 ghost use Rattle.std.specs.Prelude.{◌≤◌, ◌<◌, length};
 
-// The first place at or after `from` where `byte` stands, or the end.
-pub fn stop(s: &[u8], from: usize, byte: u8) -> usize
-    requires { from ≤ length s.now }
-    ensures { (from ≤ result) × (result ≤ length s.now) }
-{
-    let mut i = from;
-    while i < s.len() {
-        if s[i] == byte {
-            return i;
-        }
-        i += 1;
-    }
-    i
-}
-
-// Where field k starts: after the k-th tab, or at the end.
-fn start(s: &[u8], k: usize) -> usize
-    ensures { result ≤ length s.now }
-{
-    let mut left = k;
-    let mut i = 0;
-    while i < s.len() {
-        if left == 0 {
-            return i;
-        }
-        if s[i] == b'\t' {
-            left -= 1;
-        }
-        i += 1;
-    }
-    i
-}
-
+// Field k of a record; empty where there are fewer.
 pub fn field(s: &[u8], k: usize) -> &[u8] {
-    let a = start(s, k);
-    let e = stop(s, a, b'\t');
-    &s[a..e]
+    s.split(|b| *b == b'\t').nth(k).unwrap_or(&[])
 }
 
 // A digit's value; 0 for another byte.
 fn digit(b: u8) -> u64
     ensures { result < 10 }
 {
-    if b < b'0' {
-        return 0;
+    match b {
+        b'0'..=b'9' => u64::from(b - b'0'),
+        _ => 0,
     }
-    if b'9' < b {
-        return 0;
-    }
-    (b - b'0') as u64
 }
 
 // The decimal number that stands in `s`, as far as it is below a thousand million million.
@@ -58,10 +21,8 @@ pub fn number(s: &[u8]) -> u64
     ensures { result < 10000000000000000 }
 {
     let mut n: u64 = 0;
-    let mut i = 0;
-    while i < s.len() {
-        n = n % 1000000000000000 * 10 + digit(s[i]);
-        i += 1;
+    for b in s {
+        n = n % 1000000000000000 * 10 + digit(*b);
     }
     n
 }
@@ -71,18 +32,12 @@ pub fn numbers(s: &[u8], row: &mut [u64]) -> usize
     ensures { result ≤ length row.old }
 {
     let mut n = 0;
-    let mut at = 0;
-    while at < s.len() {
-        if s[at] == b'-' {
+    for part in s.split_inclusive(|b| *b == b',') {
+        if part.starts_with(b"-") || row.len() <= n {
             return n;
         }
-        if row.len() <= n {
-            return n;
-        }
-        let end = stop(s, at, b',');
-        row[n] = number(&s[at..end]);
+        row[n] = number(part.strip_suffix(b",").unwrap_or(part));
         n += 1;
-        at = end + 1;
     }
     n
 }

@@ -1,14 +1,6 @@
 -- How a search for a separator and a count go on, one byte at a time, and what stands after the k-th.
-use Prim.Native.Nat.{ℕ, zero, suc, ◌+◌, ◌-◌, ◌<◌, ◌≤◌}
-use native.Mathlib.Numerals.{add-one}
-use native.Mathlib.Omega.{arith}
-use mathlib.Core.Path.{◌≡◌, refl, sym, ◌∙◌}
-use mathlib.Core.Bool.{Bool, true, false}
-use mathlib.Core.List.{List, [], ◌∷◌}
-use borrow.Author.Tests.{eq-eqb, ne_eqb, ltb-true, ltb-false}
-use lib.Dec.{eqb, ltb}
-use lib.ListN.{length, get_or, take, drop, length-drop, drop_of_length-le}
-use lib.Seq.{drop-cons, take_all}
+use Rattle.std.proofs.Common.{ℕ, zero, suc, ◌+◌, ◌-◌, ◌<◌, ◌≤◌, cond, count_by, add-one, arith, ◌≡◌, refl, sym, ◌∙◌, Bool, true, false, List, [], ◌∷◌, eq-eqb, ne_eqb, ltb-true, ltb-false, eqb, ltb, length, get_or, take, drop, length-drop, drop_of_length-le, drop-cons, take_all}
+use Rattle.std.proofs.lemmas.List.Recursion.{is_count_by}
 use Rattle.pcode.specs.Var.{pick}
 use Rattle.fields.specs.Parts.{place_of, tail_of, rest_of, count_of, start_of}
 
@@ -26,10 +18,6 @@ module _ (b : ℕ) (s : List ℕ) (i : ℕ) where
   unfolding place_of
   place_end h = rw (drop_of_length-le s h)
 
-  pub count_end : length s ≤ i → count_of b (drop i s) ≡ 0
-  unfolding count_of
-  count_end h = rw (drop_of_length-le s h)
-
   module _ (h : i < length s) where
     pub place_here : get_or s i 0 ≡ b → place_of b (drop i s) ≡ 0
     unfolding place_of
@@ -39,13 +27,14 @@ module _ (b : ℕ) (s : List ℕ) (i : ℕ) where
     unfolding place_of
     place_more e = rw (drop-cons s i 0 h, ne_eqb _ _ e, add-one)
 
-    pub count_here : get_or s i 0 ≡ b → count_of b (drop i s) ≡ suc (count_of b (drop (i + 1) s))
-    unfolding count_of
-    count_here e = rw (drop-cons s i 0 h, eq-eqb _ _ e, add-one)
-
-    pub count_more : (get_or s i 0 ≡ b → ⊥) → count_of b (drop i s) ≡ count_of b (drop (i + 1) s)
-    unfolding count_of
-    count_more e = rw (drop-cons s i 0 h, ne_eqb _ _ e, add-one)
+-- the count by std's word
+pub count_is : (b : ℕ) (s : List ℕ) → count_of b s ≡ count_by (λ x. eqb x b) s
+unfolding count_of
+count_is b s = is_count_by (count_of b) (λ x. eqb x b) refl (λ x xs. here (eqb x b) (count_of b xs)) s
+  where
+    here : (t : Bool) (n : ℕ) → pick t (suc n) n ≡ cond t (1 + n) n
+    here true n = omega arith
+    here false n = refl
 
 pub rest_zero : (b : ℕ) (s : List ℕ) → rest_of b s 0 ≡ s
 unfolding rest_of

@@ -6,14 +6,12 @@ ghost use Rattle.fields.specs.Parts.{place_of, head_of, tail_of, part_of, count_
 pub fn place(s: &[u8], b: u8) -> usize
     ensures { result ≡ place_of b s.now }
 {
-    let mut i = 0;
-    while i < s.len() {
-        if s[i] == b {
+    for (i, x) in s.iter().enumerate() {
+        if *x == b {
             return i;
         }
-        i += 1;
     }
-    i
+    s.len()
 }
 
 // Where what follows the first `b` starts; the length where there is none.
@@ -22,10 +20,7 @@ pub fn start(s: &[u8], b: u8) -> usize
 {
     let p = place(s, b);
     let n = s.len();
-    if p < n {
-        return p + 1;
-    }
-    n
+    if p < n { p + 1 } else { n }
 }
 
 // The part before the first `b`.
@@ -41,11 +36,9 @@ pub fn part(whole: &[u8], b: u8, k: usize) -> &[u8]
     ensures { result.now ≡ part_of b whole.now k }
 {
     let mut s = whole;
-    let mut i: usize = 0;
-    while i < k {
+    for i in 0..k {
         let a = start(s, b);
         s = &s[a..];
-        i += 1;
     }
     head(s, b)
 }
@@ -54,13 +47,5 @@ pub fn part(whole: &[u8], b: u8, k: usize) -> &[u8]
 pub fn count(s: &[u8], b: u8) -> usize
     ensures { result ≡ count_of b s.now }
 {
-    let mut n: usize = 0;
-    let mut i = 0;
-    while i < s.len() {
-        if s[i] == b {
-            n += 1;
-        }
-        i += 1;
-    }
-    n
+    s.iter().filter(|x| **x == b).count()
 }

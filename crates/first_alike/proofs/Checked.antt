@@ -1,12 +1,5 @@
 -- The first pass's half of demand 3, of a block that passes the first pass's checks and that refusal 16 does not meet.
-use Prim.Native.Nat.{ℕ, ◌+◌, ◌≤◌}
-use native.Mathlib.Omega.{arith}
-use mathlib.Core.Path.{◌≡◌, refl, sym, subst}
-use mathlib.Core.Bool.{Bool, true, false, true≢false}
-use mathlib.Core.List.{List, [], ◌∷◌}
-use lib.Dec.{ltb}
-use lib.ListN.{length, take}
-use borrow.Author.Tests.{ltb-false}
+use Rattle.std.proofs.Common.{ℕ, ◌+◌, ◌≤◌, arith, ◌≡◌, refl, sym, subst, Bool, true, false, true≢false, List, [], ◌∷◌, ltb, length, take, ltb-false, Ok}
 use Rattle.pcode.specs.Var.{pick}
 use Rattle.pcode.specs.Block.{held, first_limits}
 use Rattle.pcode.specs.declared.var.VarId.{VarId}
@@ -16,7 +9,6 @@ use Rattle.pcode.specs.declared.block.Marks.{Marks}
 use Rattle.vars.specs.Vars.{vars_of, held_ids, named_of}
 use Rattle.vars.specs.declared.Vars.{Vars}
 use Rattle.vars.proofs.Joining.{named_held}
-use Rattle.text.specs.declared.answer.Answer.TheVariants.{Ok}
 use Rattle.checks.specs.Statements.{stmt_check, checks_from}
 use Rattle.checks.specs.Checks.{check_of}
 use Rattle.checks.proofs.Passing.{Good, both_ok, good, passing}
@@ -33,7 +25,7 @@ in_class_lem : (x b : Bool) → pick x b true ≡ false → x ≡ true
 in_class_lem true b e = refl
 in_class_lem false b e = absurd (true≢false e)
 
-runs_from : (ids : List VarId) (block : List Stmt) (i : ℕ) (ss : List Stmt) → i + length ss ≤ first_outside own_class block i ss → checks_from i ss ≡ Ok → AllKnown ids ss → AllShort ss → AllRun ids ss
+runs_from : (ids : List VarId) (block : List Stmt) (i : ℕ) (ss : List Stmt) → i + length ss ≤ first_outside own_class block i ss → checks_from i ss ≡ Ok tt → AllKnown ids ss → AllShort ss → AllRun ids ss
 unfolding first_outside checks_from AllShort AllRun
 runs_from ids block i [] h e k s = tt
 runs_from ids block i (st ∷ ss) h e k s =
@@ -63,19 +55,19 @@ runs_from ids block i (st ∷ ss) h e k s =
         )
 
 -- the first pass's result runs as the block does, for any table of its variables
-pub first_checked : (ms : Marks) (answers : List ℕ) (b : Block) (vars : Vars) → check_of first_limits b ≡ Ok
+pub first_checked : (ms : Marks) (answers : List ℕ) (b made : Block) (vars : Vars) → check_of first_limits b ≡ Ok tt
     → ltb (first_outside own_class (held b) 0 (held b)) (length (held b)) ≡ false → AllShort (held b) → held_ids vars ≡ vars_of (held b)
-    → (propagated_of vars ms (held b)).answer ≡ Ok → FirstAlike ms answers (held b) (held (propagated_of vars ms (held b)).block)
-first_checked ms answers b vars ok class short table done =
+    → propagated_of vars ms (held b) ≡ Ok made → FirstAlike ms answers (held b) (held made)
+first_checked ms answers b made vars ok class short table done =
     let a = passing first_limits b ok in
     let c = ltb-false (first_outside own_class (held b) 0 (held b)) (length (held b)) class in
     let r = runs_from (vars_of (held b)) (held b) 0 (held b) (omega arith) a.checked (all_known (held b)) short in
-    first_alike ms answers (held b) vars table (subst (λ (l : List VarId). length l ≤ 48) (sym table) a.vars)
+    first_alike ms answers (held b) vars table (subst (λ (l : List VarId). length l ≤ 48) (sym table) a.vars) made
     (subst (λ (l : List VarId). AllRun l (held b)) (sym table) r) a.short done
 
 -- the block's own table is one
-pub first_named_lem : (ms : Marks) (answers : List ℕ) (b : Block) → check_of first_limits b ≡ Ok
-    → ltb (first_outside own_class (held b) 0 (held b)) (length (held b)) ≡ false → AllShort (held b) → (propagated_of (named_of 48 (held b)).vars ms (held b)).answer ≡ Ok
-    → FirstAlike ms answers (held b) (held (propagated_of (named_of 48 (held b)).vars ms (held b)).block)
-first_named_lem ms answers b ok class short done =
-    first_checked ms answers b (named_of 48 (held b)).vars ok class short (named_held 48 (held b) (passing first_limits b ok).vars) done
+pub first_named_lem : (ms : Marks) (answers : List ℕ) (b made : Block) → check_of first_limits b ≡ Ok tt
+    → ltb (first_outside own_class (held b) 0 (held b)) (length (held b)) ≡ false → AllShort (held b) → propagated_of (named_of 48 (held b)).vars ms (held b) ≡ Ok made
+    → FirstAlike ms answers (held b) (held made)
+first_named_lem ms answers b made ok class short done =
+    first_checked ms answers b made (named_of 48 (held b)).vars ok class short (named_held 48 (held b) (passing first_limits b ok).vars) done

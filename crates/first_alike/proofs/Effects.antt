@@ -1,19 +1,13 @@
 -- What the pass makes of one statement has the statement's effect: kept, dropped, a copy, or by way of an added temporary.
-use Prim.Native.Nat.{ℕ, ◌+◌, ◌*◌, ◌%◌, ◌^◌, ◌≤◌}
-use native.Mathlib.Omega.{arith}
-use native.Mathlib.Nat.{mod-lt}
-use mathlib.Core.Path.{◌≡◌, refl, sym, ap, ap₂, ◌∙◌, subst}
-use mathlib.Core.Bool.{true, true≢false}
-use mathlib.Core.List.{List, [], ◌∷◌, ◌++◌}
-use lib.Pow.{pow_pos}
+use Rattle.std.proofs.Common.{ℕ, ◌+◌, ◌*◌, ◌%◌, ◌^◌, ◌≤◌, arith, mod-lt, ◌≡◌, refl, sym, ap, ap₂, ◌∙◌, subst, true, true≢false, List, [], ◌∷◌, ◌++◌, pow_pos, None as Next}
 use Rattle.pcode.specs.Var.{cut, less_id, size_of, size_out}
 use Rattle.pcode.specs.Block.{lasting, stmt_of}
 use Rattle.pcode.specs.declared.var.VarId.{VarId}
 use Rattle.pcode.specs.declared.var.VarNode.{VarNode}
 use Rattle.pcode.specs.declared.var.Operand.{Operand}
 use Rattle.pcode.specs.declared.var.Operand.TheVariants.{None, Var}
-use Rattle.pcode.specs.declared.var.Output.{Output}
-use Rattle.pcode.specs.declared.var.Output.TheVariants as Out
+use Rattle.pcode.specs.Var.{Output}
+use Rattle.std.specs.declared.option.Option.TheVariants as Out
 use Rattle.pcode.specs.declared.op.OneOp.{OneOp}
 use Rattle.pcode.specs.declared.op.OneOp.TheVariants.{Copy, ZeroExtend}
 use Rattle.pcode.specs.declared.op.Op.{Op}
@@ -23,8 +17,7 @@ use Rattle.pcode.specs.declared.block.Marks.{Marks}
 use Rattle.meaning.specs.Meaning.{meaning}
 use Rattle.step.specs.Steps.{act_of, answer_at, loads_after, flow_of}
 use Rattle.step.specs.declared.Act.{Act}
-use Rattle.step.specs.declared.Flow.{Flow}
-use Rattle.step.specs.declared.Flow.TheVariants.{Next}
+use Rattle.step.specs.Steps.{Flow}
 use Rattle.widen.specs.Widen.{lowest, added_of}
 use Rattle.alike.proofs.Fits.{InRow}
 use Rattle.alike.proofs.Havoc.{State, Set, value_by, put_by, result_by, view, Sight, sights_of, bytes_after, Holding, holding, reached, rough, run_by}
@@ -168,15 +161,15 @@ module _ (ms : Marks) (answers : List ℕ) (floor : VarId) where
 
     -- to an added temporary and a `ZeroExtend`
     module _ (writer : Writer act) (o : VarNode) (fit : o.offset + o.size ≤ 16) (least : VarId) (under : less_id (added_of least o).id floor ≡ true) (w : ℕ)
-        (wide : Wide (put_by h.bytes (Out.Var o) (x (Out.Var o))) o w) where
+        (wide : Wide (put_by h.bytes (Out.Some o) (x (Out.Some o))) o w) where
       abbrev add : VarNode
       add = added_of least o
 
       abbrev y : ℕ
-      y = x (Out.Var o) % 2 ^ (8 * o.size)
+      y = x (Out.Some o) % 2 ^ (8 * o.size)
 
       abbrev mid : State
-      mid = put_by g.bytes (Out.Var add) (x (Out.Var o))
+      mid = put_by g.bytes (Out.Some add) (x (Out.Some o))
 
       abbrev between : Holding
       between = reached mid act g
@@ -185,16 +178,16 @@ module _ (ms : Marks) (answers : List ℕ) (floor : VarId) where
       add_fit = omega (arith, fit)
 
       mid_alike : Alike ms answers floor mid g.bytes
-      mid_alike id r k = put_off g.bytes add (x (Out.Var o)) id k add_fit (λ e m n. true≢false (sym under ∙ ap (λ (i : VarId). less_id i floor) e ∙ r))
+      mid_alike id r k = put_off g.bytes add (x (Out.Some o)) id k add_fit (λ e m n. true≢false (sym under ∙ ap (λ (i : VarId). less_id i floor) e ∙ r))
 
       read_back : value_by between.bytes (Var add) ≡ y
-      read_back = num_put g.bytes add (x (Out.Var o)) add_fit
+      read_back = num_put g.bytes add (x (Out.Some o)) add_fit
 
-      to_mid : reached (bytes_after ms act g.changed g.bytes (u 0) (Out.Var add) (x (Out.Var add))) act g ≡ between
+      to_mid : reached (bytes_after ms act g.changed g.bytes (u 0) (Out.Some add) (x (Out.Some add))) act g ≡ between
       to_mid =
           ap (λ (s : State). reached s act g)
-          (writer_bytes act writer g.changed g.bytes (u 0) (Out.Var add) (x (Out.Var add))
-          ∙ ap (put_by g.bytes (Out.Var add)) (result_sized h.loads act op (Out.Var o) (Out.Var add) a b (value_by h.bytes a) (value_by h.bytes b) refl))
+          (writer_bytes act writer g.changed g.bytes (u 0) (Out.Some add) (x (Out.Some add))
+          ∙ ap (put_by g.bytes (Out.Some add)) (result_sized h.loads act op (Out.Some o) (Out.Some add) a b (value_by h.bytes a) (value_by h.bytes b) refl))
 
       abbrev extend : Stmt
       extend = stmt_of (OneOf ZeroExtend) (lowest o w) (Var add) None
@@ -207,27 +200,27 @@ module _ (ms : Marks) (answers : List ℕ) (floor : VarId) where
           run_step ms answers floor u extend tail between y 0 read_back refl
           ∙ ap (λ (z : ℕ). run u tail Next (reached (put_by mid (lowest o w) z) Act.Computes between)) (extend_copies (8 * o.size) (8 * w) y 0)
 
-      own : (step_by act u (stmt_of op (Out.Var o) a b) h).bytes ≡ put_by h.bytes (Out.Var o) (x (Out.Var o))
-      own = writer_bytes act writer h.changed h.bytes (u 0) (Out.Var o) (x (Out.Var o))
+      own : (step_by act u (stmt_of op (Out.Some o) a b) h).bytes ≡ put_by h.bytes (Out.Some o) (x (Out.Some o))
+      own = writer_bytes act writer h.changed h.bytes (u 0) (Out.Some o) (x (Out.Some o))
 
-      pub added_effect : Effect act u (stmt_of op (Out.Var o) a b) (stmt_of op (Out.Var add) c d ∷ extend ∷ []) h g
+      pub added_effect : Effect act u (stmt_of op (Out.Some o) a b) (stmt_of op (Out.Some add) c d ∷ extend ∷ []) h g
       added_effect =
           record {
             other = end;
             right = λ tail.
-                first_right (Out.Var add) (extend ∷ tail)
-                ∙ ap (λ (k : Holding). seen_by act (stmt_of op (Out.Var o) a b) h ++ run (onward ms answers floor act u) (extend ∷ tail) (flow_of act (value_by h.bytes a)) k) to_mid
-                ∙ ap (λ (z : List Sight). seen_by act (stmt_of op (Out.Var o) a b) h ++ z)
+                first_right (Out.Some add) (extend ∷ tail)
+                ∙ ap (λ (k : Holding). seen_by act (stmt_of op (Out.Some o) a b) h ++ run (onward ms answers floor act u) (extend ∷ tail) (flow_of act (value_by h.bytes a)) k) to_mid
+                ∙ ap (λ (z : List Sight). seen_by act (stmt_of op (Out.Some o) a b) h ++ z)
                 (ap₂ (λ (v : ℕ → State) (f : Flow). run v (extend ∷ tail) f between) (writer_onward act writer u) (writer_flow act writer (value_by h.bytes a))
                 ∙ second_right tail
                 ∙ sym (ap₂ (λ (v : ℕ → State) (f : Flow). run v tail f end) (writer_onward act writer u) (writer_flow act writer (value_by h.bytes a))));
             pair =
-                moved ms answers floor (holding h.bytes h.changed (loads_after h.loads act)) between (step_by act u (stmt_of op (Out.Var o) a b) h).bytes (put_by mid (lowest o w) y) Act.Computes Act.Computes
+                moved ms answers floor (holding h.bytes h.changed (loads_after h.loads act)) between (step_by act u (stmt_of op (Out.Some o) a b) h).bytes (put_by mid (lowest o w) y) Act.Computes Act.Computes
                 (added ms answers floor h g mid act p mid_alike (loads_after h.loads act) (ap (λ (n : ℕ). loads_after n act) p.loads))
                 (λ id r k.
                 ap (λ (s : State). s id k) own
-                ∙ put_widened h.bytes o (x (Out.Var o)) y w id k fit (mod-lt (x (Out.Var o)) (pow_pos (8 * o.size))) refl wide
+                ∙ put_widened h.bytes o (x (Out.Some o)) y w id k fit (mod-lt (x (Out.Some o)) (pow_pos (8 * o.size))) refl wide
                 ∙ put_agree h.bytes mid (lowest o w) y id k (λ n. p.bytes id r k ∙ sym (mid_alike id r k)))
-                (after_bytes ms answers floor act h.changed h.bytes (u 0) (Out.Var o) (x (Out.Var o)) p.bytewise calm)
+                (after_bytes ms answers floor act h.changed h.bytes (u 0) (Out.Some o) (x (Out.Some o)) p.bytewise calm)
                 (ap (λ (n : ℕ). loads_after n act) p.loads);
           }

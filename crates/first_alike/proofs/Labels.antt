@@ -1,16 +1,12 @@
 -- A label: kept or gone, reached by a jump of both runs, by a skip of the pass, or from above.
-use Prim.Native.Nat.{ℕ, ◌+◌}
-use mathlib.Core.Path.{◌≡◌, refl, sym, ap, ◌∙◌}
-use mathlib.Core.Bool.{Bool, true, false}
-use mathlib.Core.List.{List, [], ◌∷◌, ◌++◌}
-use borrow.Author.Tests.{eqb-true, eqb-false, eq-eqb, ne_eqb}
-use lib.Dec.{eqb}
+use Rattle.std.proofs.Common.{Option, None as Nothing, Some, ℕ, ◌+◌, ◌≡◌, refl, sym, ap, ◌∙◌, Bool, true, false, List, [], ◌∷◌, ◌++◌, eqb-true, eq-eqb, ne_eqb, eqb, None as Next, Some as Jump}
+use borrow.Author.Tests.{eqb-false}
 use Rattle.pcode.specs.Var.{pick, same_label}
 use Rattle.pcode.specs.Block.{stmt_of}
 use Rattle.pcode.specs.declared.var.VarId.{VarId}
 use Rattle.pcode.specs.declared.var.PcodeLabel.{PcodeLabel}
 use Rattle.pcode.specs.declared.var.Operand.{Operand}
-use Rattle.pcode.specs.declared.var.Output.TheVariants as Out
+use Rattle.std.specs.declared.option.Option.TheVariants as Out
 use Rattle.pcode.specs.declared.op.Op.{Op}
 use Rattle.pcode.specs.declared.op.Op.TheVariants as Ops
 use Rattle.pcode.specs.declared.block.Stmt.{Stmt}
@@ -21,15 +17,12 @@ use Rattle.vars.proofs.Rows.{ways}
 use Rattle.checks.specs.Labels.{is_label}
 use Rattle.const_eval.specs.State as Known
 use Rattle.const_eval.specs.State.{cleared}
-use Rattle.widen.specs.declared.widen.Skip.{Skip}
-use Rattle.widen.specs.declared.widen.Skip.TheVariants as Skips
 use Rattle.widen.specs.declared.widen.Made.{Made}
 use Rattle.widen.specs.Widen.{nothing_m}
 use Rattle.const_step.specs.Labels.{targets_of, has_target, branch_of, label_stmt, kept_label, label_of}
 use Rattle.const_prop.specs.Pass.{stmts_of}
 use Rattle.step.specs.declared.Act.TheVariants as Act
-use Rattle.step.specs.declared.Flow.{Flow}
-use Rattle.step.specs.declared.Flow.TheVariants.{Next, Jump}
+use Rattle.step.specs.Steps.{Flow}
 use Rattle.run.specs.Run.{arrived}
 use Rattle.alike.proofs.Havoc.{State, value_by, put_by, Holding, reached, rough, run_by}
 use Rattle.alike.proofs.Parts.{Bytewise, put_agree, put_bytes}
@@ -80,7 +73,7 @@ module _ (ms : Marks) (answers : List ℕ) (floor : VarId) (vars : Vars) where
 
     -- from above
     pub label_along : (kept : Bool) → Valid ids K h.bytes
-        → Goes ms answers floor vars u st Next h (stmts_of (label_of Skips.None m kept)) Next g (label_of Skips.None m kept).skip (done ++ stmts_of (label_of Skips.None m kept)) (pick kept (cleared K) K)
+        → Goes ms answers floor vars u st Next h (stmts_of (label_of Nothing m kept)) Next g (label_of Nothing m kept).skip (done ++ stmts_of (label_of Nothing m kept)) (pick kept (cleared K) K)
     label_along true v =
         record {
           sights = [];
@@ -122,7 +115,7 @@ module _ (ms : Marks) (answers : List ℕ) (floor : VarId) (vars : Vars) where
 
     -- by a skip
     pub label_ahead : (l : PcodeLabel) (kept t : Bool) → same_label l m ≡ t → Valid ids K h.bytes
-        → GoesFor (Jump l) Next (pick kept (kept_label (pick t Skips.None (Skips.To l)) m) (nothing_m (pick t Skips.None (Skips.To l)))) (pick kept (cleared K) K)
+        → GoesFor (Jump l) Next (pick kept (kept_label (pick t Nothing (Some l)) m) (nothing_m (pick t Nothing (Some l)))) (pick kept (cleared K) K)
     label_ahead l true true e v =
         record {
           sights = [];
@@ -184,7 +177,7 @@ module _ (ms : Marks) (answers : List ℕ) (floor : VarId) (vars : Vars) where
         }
 
     -- the result's label ends both jumps
-    pub label_meets : (l : PcodeLabel) (k : Skip) → same_label l m ≡ true → GoesFor (Jump l) (Jump l) (kept_label k m) (cleared K)
+    pub label_meets : (l : PcodeLabel) (k : Option PcodeLabel) → same_label l m ≡ true → GoesFor (Jump l) (Jump l) (kept_label k m) (cleared K)
     label_meets l k e =
         record {
           sights = [];
@@ -203,13 +196,13 @@ module _ (ms : Marks) (answers : List ℕ) (floor : VarId) (vars : Vars) where
         last : (tail : List Stmt) → run_by ms answers (rough u) (label_stmt m ∷ tail) (Jump l) g ≡ run_by ms answers (rough u) tail Next g
         last tail = jump_step u (label_stmt m) tail l g ∙ ap (λ (x : Bool). run_by ms answers (rough u) tail (pick x Next (Jump l)) g) (label_sym m l ∙ e)
 
-        meets : (k : Skip) (tail : List Stmt) → run_by ms answers (rough u) (stmts_of (kept_label k m) ++ tail) (Jump l) g ≡ run_by ms answers (rough u) tail Next g
-        meets Skips.None tail = last tail
-        meets (Skips.To t) tail = jump_step u (branch_of t) (label_stmt m ∷ tail) l g ∙ last tail
+        meets : (k : Option PcodeLabel) (tail : List Stmt) → run_by ms answers (rough u) (stmts_of (kept_label k m) ++ tail) (Jump l) g ≡ run_by ms answers (rough u) tail Next g
+        meets Nothing tail = last tail
+        meets (Some t) tail = jump_step u (branch_of t) (label_stmt m ∷ tail) l g ∙ last tail
 
-        stands_at : (k : Skip) → Stands ids (kept_label k m).skip (done ++ stmts_of (kept_label k m)) (cleared K) h.bytes Next Next
-        stands_at Skips.None = along refl (cleared_valid ids K h.bytes)
-        stands_at (Skips.To t) = along refl (cleared_valid ids K h.bytes)
+        stands_at : (k : Option PcodeLabel) → Stands ids (kept_label k m).skip (done ++ stmts_of (kept_label k m)) (cleared K) h.bytes Next Next
+        stands_at Nothing = along refl (cleared_valid ids K h.bytes)
+        stands_at (Some t) = along refl (cleared_valid ids K h.bytes)
 
     -- another label
     pub label_off : (l : PcodeLabel) (x : Made) (L : Known.State) → same_label l m ≡ false → Passes l (stmts_of x) → has_target (targets_of done) (1 + l.0) ≡ true
@@ -229,8 +222,8 @@ module _ (ms : Marks) (answers : List ℕ) (floor : VarId) (vars : Vars) where
           stands = off l (target_more done (stmts_of x) (1 + l.0) r);
         }
 
-    pub label_passes : (l : PcodeLabel) (kept : Bool) (k : Skip) → same_label l m ≡ false → Passes l (stmts_of (pick kept (kept_label k m) (nothing_m k)))
+    pub label_passes : (l : PcodeLabel) (kept : Bool) (k : Option PcodeLabel) → same_label l m ≡ false → Passes l (stmts_of (pick kept (kept_label k m) (nothing_m k)))
     unfolding Each
     label_passes l false k e = tt
-    label_passes l true Skips.None e = (label_sym m l ∙ e, tt)
-    label_passes l true (Skips.To t) e = (refl, (label_sym m l ∙ e, tt))
+    label_passes l true Nothing e = (label_sym m l ∙ e, tt)
+    label_passes l true (Some t) e = (refl, (label_sym m l ∙ e, tt))

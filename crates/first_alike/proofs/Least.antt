@@ -1,13 +1,10 @@
 -- Added ids: an id below the least of a block's is none of the block's, and no lasting variable's.
-use Prim.Native.Nat.{zero, suc}
-use native.Mathlib.Omega.{arith}
-use mathlib.Core.Path.{◌≡◌, refl, sym, ap, ◌∙◌, subst}
-use mathlib.Core.Bool.{Bool, true, false, not, ◌&&◌, ◌||◌, true≢false, false≢true}
-use mathlib.Core.List.{List, [], ◌∷◌, ◌++◌}
-use borrow.Author.Tests.{ltb-true, ltb-false, lt-ltb, le-ltb}
+use Rattle.std.specs.Ordering.{int_eq}
+use Rattle.std.proofs.Common.{zero, suc, arith, ◌≡◌, refl, sym, ap, ◌∙◌, subst, Bool, true, false, not, ◌&&◌, ◌||◌, true≢false, List, [], ◌∷◌, ◌++◌, ltb-true, ltb-false, lt-ltb, le-ltb}
+use mathlib.Core.Bool.{false≢true}
 use lib.IntN.{ℤ, pos, negsuc, pred_ℤ, ◌-ℤ◌, -ℤ_one}
 use lib.Signed.{lt_z}
-use Rattle.pcode.specs.Var.{pick, eq_z, same_id, less_id, least_id, below_id}
+use Rattle.pcode.specs.Var.{pick, same_id, less_id, least_id, below_id}
 use Rattle.pcode.specs.Block.{has_id, lasting, marked}
 use Rattle.pcode.specs.declared.var.VarId.{VarId}
 use Rattle.pcode.specs.declared.block.Stmt.{Stmt}
@@ -81,7 +78,7 @@ one_below a = ap (λ (z : ℤ). lt_z z a) (-ℤ_one a) ∙ go a
     go (negsuc n) = lt-ltb n (suc n) (omega arith)
 
 below_less : (a : VarId) → same_id (below_id a) a ≡ false → less_id (below_id a) a ≡ true
-below_less a h = go (eq_z a.0 (negsuc 32767)) h
+below_less a h = go (int_eq a.0 (negsuc 32767)) h
   where
     go : (t : Bool) → same_id (pick t a (record { 0 = a.0 -ℤ pos 1 })) a ≡ false → less_id (pick t a (record { 0 = a.0 -ℤ pos 1 })) a ≡ true
     go true q = absurd (true≢false (sym (same_id_refl a) ∙ q))

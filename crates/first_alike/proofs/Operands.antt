@@ -1,16 +1,8 @@
 -- Operands: their codes hold their value, and what the pass puts in their place has the same value and size.
-use Prim.Native.Nat.{ℕ, zero, suc, ◌+◌, ◌*◌, ◌/◌, ◌%◌, ◌^◌, ◌≤◌, ◌<◌}
-use native.Mathlib.Omega.{arith}
-use native.Mathlib.Nat.{mod-lt, mod-eq_of_lt}
-use mathlib.Core.Path.{◌≡◌, refl, sym, ap, ap₂, ◌∙◌, subst}
-use mathlib.Core.Bool.{Bool, true, false}
-use mathlib.Core.List.{List, [], ◌∷◌, ◌++◌}
-use borrow.Author.Tests.{leb-false}
-use lib.Dec.{lit<, eqb, leb}
-use lib.Pow.{pow_pos, pow-lt}
+use Rattle.std.proofs.Common.{Option, None as Nothing, Some, ℕ, zero, suc, ◌+◌, ◌*◌, ◌/◌, ◌%◌, ◌^◌, ◌≤◌, ◌<◌, arith, mod-lt, mod-eq_of_lt, ◌≡◌, refl, sym, ap, ap₂, ◌∙◌, subst, Bool, true, false, List, [], ◌∷◌, ◌++◌, leb-false, lit<, eqb, leb, pow_pos, length, take, drop, get_or, take-add, drop-drop, get_or-take}
+use lib.Pow.{pow-lt}
 use lib.IntN.{pos}
-use lib.ListN.{length, take, drop, get_or, length-map}
-use lib.Seq.{take-add, drop-drop, get_or-take}
+use lib.ListN.{length-map}
 use Rattle.pcode.specs.Var.{size_of}
 use Rattle.pcode.specs.Block.{has_id}
 use Rattle.pcode.specs.declared.var.VarId.{VarId}
@@ -19,8 +11,6 @@ use Rattle.pcode.specs.declared.var.Operand.TheVariants.{None, Const, Var}
 use Rattle.vars.specs.Vars.{row_of, held_ids}
 use Rattle.vars.specs.declared.Vars.{Vars}
 use Rattle.vars.proofs.Rows.{row_below, row_at}
-use Rattle.bit_vec.specs.declared.known.Constant.{Constant}
-use Rattle.bit_vec.specs.declared.known.Constant.TheVariants.{Known as Fixed, Open}
 use Rattle.bit_vec.specs.Lists.{bits, codes}
 use Rattle.bit_vec.specs.Moves.{digits}
 use Rattle.bit_vec.specs.Known.{cons_k, const_from, const_of}
@@ -29,8 +19,6 @@ use Rattle.bit.specs.Bits.{bit_of, code_of, pick as choose}
 use Rattle.bit.specs.declared.Bit.TheVariants.{Zero, One}
 use Rattle.bit.proofs.Codes.{round}
 use Rattle.const_eval.specs.declared.place.Place.{Place}
-use Rattle.const_eval.specs.declared.map.Found.{Found}
-use Rattle.const_eval.specs.declared.map.Found.TheVariants.{Nothing, At}
 use Rattle.const_eval.specs.Known.{part_of}
 use Rattle.const_eval.specs.State as Known
 use Rattle.const_eval.specs.State.{entries_of, map_gives, Good}
@@ -81,12 +69,12 @@ Canon (Const k n) = k < 2 ^ (8 * n)
 Canon (Var v) = Unit {0}
 
 -- a constant's digits are known
-digits_known : (n v : ℕ) → (k : ℕ) × (const_from (bits (codes (digits n v))) ≡ Fixed k)
+digits_known : (n v : ℕ) → (k : ℕ) × (const_from (bits (codes (digits n v))) ≡ Some k)
 digits_known zero v = (0, refl)
 digits_known (suc n) v = go (eqb (v % 2) 1) (digits_known n (v / 2))
   where
-    go : (t : Bool) → (k : ℕ) × (const_from (bits (codes (digits n (v / 2)))) ≡ Fixed k)
-        → (k : ℕ) × (cons_k (bit_of (code_of (choose t One Zero))) (const_from (bits (codes (digits n (v / 2))))) ≡ Fixed k)
+    go : (t : Bool) → (k : ℕ) × (const_from (bits (codes (digits n (v / 2)))) ≡ Some k)
+        → (k : ℕ) × (cons_k (bit_of (code_of (choose t One Zero))) (const_from (bits (codes (digits n (v / 2))))) ≡ Some k)
     go true p = (2 * p.0 + 1, ap₂ cons_k (round One tt) p.1)
     go false p = (2 * p.0 + 0, ap₂ cons_k (round Zero tt) p.1)
 
@@ -94,16 +82,16 @@ less_less : (a b d : ℕ) → a < b → b < d → a < d
 less_less a b d h g = omega arith
 
 -- a constant whose bits are not taken for a number has more than 8 bytes
-open_canon : (v n : ℕ) → v < 2 ^ 64 → const_of (bits (codes (digits (8 * n) v))) ≡ Open → v < 2 ^ (8 * n)
+open_canon : (v n : ℕ) → v < 2 ^ 64 → const_of (bits (codes (digits (8 * n) v))) ≡ Nothing → v < 2 ^ (8 * n)
 open_canon v n h e = go (leb (length (bits (codes (digits (8 * n) v)))) 64) refl e
   where
     wide : length (bits (codes (digits (8 * n) v))) ≡ 8 * n
     wide = length-map (codes (digits (8 * n) v)) bit_of ∙ length_number (8 * n) v
 
-    go : (t : Bool) → leb (length (bits (codes (digits (8 * n) v)))) 64 ≡ t → choose t (const_from (bits (codes (digits (8 * n) v)))) Open ≡ Open → v < 2 ^ (8 * n)
+    go : (t : Bool) → leb (length (bits (codes (digits (8 * n) v)))) 64 ≡ t → choose t (const_from (bits (codes (digits (8 * n) v)))) Nothing ≡ Nothing → v < 2 ^ (8 * n)
     go true q r = let p = digits_known (8 * n) v in absurd (fixed_open p.0 (sym p.1 ∙ r))
       where
-        fixed_open : (k : ℕ) → ◌≡◌ {A = Constant} (Fixed k) Open → ⊥
+        fixed_open : (k : ℕ) → ◌≡◌ {A = Option ℕ} (Some k) Nothing → ⊥
         fixed_open k z = let y : ◌≡◌ {A = ℕ} 0 1 = cc in omega arith
     go false q r = less_less v (2 ^ 64) (2 ^ (8 * n)) h (pow-lt {i = 64} {j = 8 * n} (let l = leb-false (length (bits (codes (digits (8 * n) v)))) 64 q in omega (arith, l, wide)))
 
@@ -154,17 +142,17 @@ module _ (vars : Vars) (few : length (held_ids vars) ≤ 48) where
       (q, low_same (8 * n) x y (subst (λ (k : ℕ). low (8 * k) x ≡ low (8 * n) y) q e))
 
   -- a known constant is the value
-  pub const_value : (τ : Valuation) (xs : List ℕ) (n x k : ℕ) → Holds τ xs (low n x) → const_of (bits xs) ≡ Fixed k → k ≡ x % 2 ^ n
+  pub const_value : (τ : Valuation) (xs : List ℕ) (n x k : ℕ) → Holds τ xs (low n x) → const_of (bits xs) ≡ Some k → k ≡ x % 2 ^ n
   const_value τ xs n x k h e =
       let c : ConstIs (const_of (bits xs)) (num (low n x)) = const_num τ (bits xs) (low n x) (holds_agrees τ xs (low n x) h) in
-      let d : ConstIs (Fixed k) (num (low n x)) = subst (λ (z : Constant). ConstIs z (num (low n x))) e c in
+      let d : ConstIs (Some k) (num (low n x)) = subst (λ (z : Option ℕ). ConstIs z (num (low n x))) e c in
       d ∙ num_low n x
 
   module _ (K : Known.State) (s : State) (bytes : Bytewise s) (good : Good K) (live : Live ids K.used (entries_of K)) (τ : Valuation)
       (rows : Rows ids τ K.used K.store s) where
     -- the part that the map gives for an operand
     given_stead : (a : Operand) (p : Place) → Holds τ (operand_bits vars a K.store) (low (8 * size_of a) (value_by s a))
-        → map_gives (operand_bits vars a K.store) K ≡ At p → Stead ids s a (Var (node_at vars p))
+        → map_gives (operand_bits vars a K.store) K ≡ Some p → Stead ids s a (Var (node_at vars p))
     given_stead a p h e =
         let key = operand_bits vars a K.store in
         let l = live_given ids K.used K.store (entries_of K) key p live e in
@@ -192,11 +180,11 @@ module _ (vars : Vars) (few : length (held_ids vars) ≤ 48) where
         let v : value_by s a % 2 ^ (8 * size_of a) ≡ value_by s a = mod-eq_of_lt (value_small s a bytes) in
         record { value = ap (λ (x : ℕ). x % 2 ^ (8 * size_of a)) (e ∙ v) ∙ v; size = refl; known = tt; in_row = tt; canon = subst (λ (x : ℕ). x < 2 ^ (8 * size_of a)) (sym e) (mod-lt (value_by s a) (pow_pos (8 * size_of a))) }
 
-    by_stead : (a : Operand) (c : Constant) (f : Found) → KnownIn ids a → InRow a → (const_of (bits (operand_bits vars a K.store)) ≡ Open → Canon a) → Holds τ (operand_bits vars a K.store) (low (8 * size_of a) (value_by s a))
+    by_stead : (a : Operand) (c : Option ℕ) (f : Option Place) → KnownIn ids a → InRow a → (const_of (bits (operand_bits vars a K.store)) ≡ Nothing → Canon a) → Holds τ (operand_bits vars a K.store) (low (8 * size_of a) (value_by s a))
         → const_of (bits (operand_bits vars a K.store)) ≡ c → map_gives (operand_bits vars a K.store) K ≡ f → Stead ids s a (becomes_by vars c f a)
-    by_stead a (Fixed k) f n i w h e g = const_stead a k (const_value τ (operand_bits vars a K.store) (8 * size_of a) (value_by s a) k h e)
-    by_stead a Open Nothing n i w h e g = same_stead a n i (w e)
-    by_stead a Open (At p) n i w h e g = given_stead a p h g
+    by_stead a (Some k) f n i w h e g = const_stead a k (const_value τ (operand_bits vars a K.store) (8 * size_of a) (value_by s a) k h e)
+    by_stead a Nothing Nothing n i w h e g = same_stead a n i (w e)
+    by_stead a Nothing (Some p) n i w h e g = given_stead a p h g
 
     -- what an operand becomes
     pub becomes_stead : (a : Operand) → KnownIn ids a → InRow a → Short a → UsedIn ids K.used a → Stead ids s a (becomes vars K a)

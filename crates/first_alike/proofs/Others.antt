@@ -1,19 +1,15 @@
 -- Every statement other than a label that the pass does not skip: with an output, a marker, and by the operation.
-use Prim.Native.Nat.{ℕ, zero, suc, ◌+◌, ◌≤◌, ◌<◌}
-use native.Mathlib.Omega.{arith}
-use mathlib.Core.Path.{◌≡◌, refl, sym, ap, ◌∙◌}
-use mathlib.Core.Bool.{Bool, true, false, false≢true}
-use mathlib.Core.List.{List, [], ◌∷◌, ◌++◌}
-use lib.ListN.{length, get_or, take, length-map, get_or-map}
-use lib.Seq.{get_or-take}
+use Rattle.std.proofs.Common.{Option, None as Nothing, Some, Result, Ok, Err, ℕ, zero, suc, ◌+◌, ◌≤◌, ◌<◌, arith, ◌≡◌, refl, sym, ap, ◌∙◌, Bool, true, false, List, [], ◌∷◌, ◌++◌, length, get_or, take, get_or-take, None as Next}
+use mathlib.Core.Bool.{false≢true}
+use lib.ListN.{length-map, get_or-map}
 use Rattle.pcode.specs.Var.{pick, same_id, less_id, below_id, size_of, cut}
 use Rattle.pcode.specs.Block.{has_id, lasting, stmt_of}
 use Rattle.pcode.specs.declared.var.VarId.{VarId}
 use Rattle.pcode.specs.declared.var.PcodeLabel.{PcodeLabel}
 use Rattle.pcode.specs.declared.var.VarNode.{VarNode}
 use Rattle.pcode.specs.declared.var.Operand.{Operand}
-use Rattle.pcode.specs.declared.var.Output.{Output}
-use Rattle.pcode.specs.declared.var.Output.TheVariants as Out
+use Rattle.pcode.specs.Var.{Output}
+use Rattle.std.specs.declared.option.Option.TheVariants as Out
 use Rattle.pcode.specs.declared.op.Op.{Op}
 use Rattle.pcode.specs.declared.op.Op.TheVariants as Ops
 use Rattle.pcode.specs.declared.block.Stmt.{Stmt}
@@ -21,11 +17,9 @@ use Rattle.pcode.specs.declared.block.Marks.{Marks}
 use Rattle.vars.specs.Vars.{row_of, held_ids}
 use Rattle.vars.specs.declared.Vars.{Vars}
 use Rattle.vars.proofs.Rows.{ways, row_below, row_at}
-use Rattle.bit_vec.specs.declared.known.Constant.{Constant}
-use Rattle.bit_vec.specs.declared.known.Constant.TheVariants.{Known as Fixed, Open}
 use Rattle.bit_vec.specs.Lists.{bits}
 use Rattle.bit_vec.specs.Known.{const_of}
-use Rattle.bit_vec.proofs.Moved.{get_d_in}
+use Rattle.std.proofs.lemmas.List.{get_or_default}
 use Rattle.const_eval.specs.State as Known
 use Rattle.const_eval.specs.Known.{part_of}
 use Rattle.const_eval.specs.State.{first_use, forgotten}
@@ -36,17 +30,16 @@ use Rattle.settle.specs.declared.Outcome.TheVariants as Fates
 use Rattle.simplify.specs.Simplify.{used_both, replaced_of, simple_by, simplify_of}
 use Rattle.widen.specs.Simple.{jump_of, exit_of}
 use Rattle.widen.specs.Turn.{turn_of}
-use Rattle.widen.specs.Widen.{made_of}
+use Rattle.widen.specs.Widen.{made_in, made_of}
+use Rattle.eval.specs.declared.EvalError.{EvalError}
 use Rattle.widen.specs.declared.turn.Turn.{Turn}
 use Rattle.widen.specs.declared.turn.Turn.TheVariants as Turns
-use Rattle.widen.specs.declared.widen.Skip.TheVariants as Skips
 use Rattle.const_step.specs.Steps.{Step, at_other}
 use Rattle.const_step.specs.Steps as Pass
 use Rattle.const_prop.specs.Pass.{stmts_of, temporary_flags}
 use Rattle.machine.specs.Class.{own_class, in_class}
 use Rattle.step.specs.Steps.{act_of, answer_at}
 use Rattle.step.specs.declared.Act.{Act}
-use Rattle.step.specs.declared.Flow.TheVariants.{Next}
 use Rattle.sound.specs.Sound.{computes}
 use Rattle.alike.proofs.Fits.{Quiet}
 use Rattle.alike.proofs.Havoc.{State, Set, value_by, put_by, result_by, mixed, Holding}
@@ -85,16 +78,15 @@ Unlabelled (Ops.Compare j) = Unit {0}
 Unlabelled (Ops.Bool j) = Unit {0}
 
 -- a statement with side effects stays
-stays_loaded : (n : ℕ) (f : Fate) (o : VarNode) (r : Stmt) → Fair (simple_by f true o r) → Loaded (Act.Loads n) (simple_by f true o r)
-stays_loaded n Fates.Stays o r h = tt
-stays_loaded n Fates.Unchanged o r h = tt
-stays_loaded n (Fates.Constantly k) o r h = tt
-stays_loaded n Fates.First o r h = tt
-stays_loaded n Fates.Second o r h = tt
-stays_loaded n Fates.TooFar o r h = absurd h
-stays_loaded n Fates.BadSizes o r h = absurd h
+stays_loaded : (n : ℕ) (f : Result Fate EvalError) (o : VarNode) (r : Stmt) → Fair (simple_by f true o r) → Loaded (Act.Loads n) (simple_by f true o r)
+stays_loaded n (Ok Fates.Stays) o r h = tt
+stays_loaded n (Ok Fates.Unchanged) o r h = tt
+stays_loaded n (Ok (Fates.Constantly k)) o r h = tt
+stays_loaded n (Ok Fates.First) o r h = tt
+stays_loaded n (Ok Fates.Second) o r h = tt
+stays_loaded n (Err e) o r h = absurd h
 
-no_output : {R : Type 0} (o : VarNode) → ◌≡◌ {A = Output} (Out.Var o) Out.None → R
+no_output : {R : Type 0} (o : VarNode) → ◌≡◌ {A = Output} (Out.Some o) Out.None → R
 no_output o e = absurd (let z : ◌≡◌ {A = ℕ} 0 1 = cc in omega arith)
 
 module _ (ms : Marks) (answers : List ℕ) (floor : VarId) (vars : Vars) (few : length (held_ids vars) ≤ 48) where
@@ -109,7 +101,7 @@ module _ (ms : Marks) (answers : List ℕ) (floor : VarId) (vars : Vars) (few : 
       let c : row_of ids id < vars.count = take_below vars.count vars.ids (row_of ids id) b in
       let i : get_or (take 48 vars.ids) (row_of ids id) id ≡ id =
       get_or-take 48 vars.ids (row_of ids id) id (omega (arith, b, few)) ∙ sym (get_or-take vars.count vars.ids (row_of ids id) id c) ∙ row_at ids id id h in
-      let g : f id ≡ 0 = sym (ap f i) ∙ sym (get_or-map f (take 48 vars.ids) (row_of ids id) id) ∙ sym (get_d_in (temporary_flags ms (take 48 vars.ids)) (row_of ids id) (f id) l) ∙ e in
+      let g : f id ≡ 0 = sym (ap f i) ∙ sym (get_or-map f (take 48 vars.ids) (row_of ids id) id) ∙ sym (get_or_default (temporary_flags ms (take 48 vars.ids)) (row_of ids id) 0 (f id) l) ∙ e in
       ways (lasting ms id) (λ t. t) (λ t. absurd (let z : ◌≡◌ {A = ℕ} 1 0 = sym (ap (λ (x : Bool). pick x 0 1) t) ∙ g in omega arith))
 
   flags_long : (id : VarId) → has_id ids id ≡ true → row_of ids id < length (temporary_flags ms (take 48 vars.ids))
@@ -145,20 +137,20 @@ module _ (ms : Marks) (answers : List ℕ) (floor : VarId) (vars : Vars) (few : 
       (v : Valid (held_ids vars) K h.bytes) where
     -- the step of a statement that is not skipped
     abbrev steps : Turn → Stmt → Step
-    steps t st = at_other vars least Skips.None t st K
+    steps t st = at_other vars least Nothing t st K
 
     abbrev GoesBy : Stmt → Step → Type 0
-    GoesBy st x = Goes ms answers floor vars u st Next h (stmts_of x.made) Next g x.made.skip (done ++ stmts_of x.made) x.state
+    GoesBy st x = Goes ms answers floor vars u st Next h (stmts_of (made_in x.made)) Next g (made_in x.made).skip (done ++ stmts_of (made_in x.made)) x.state
 
-    module _ (op : Op) (o : VarNode) (sits : Sits ids (stmt_of op (Out.Var o) a b)) where
+    module _ (op : Op) (o : VarNode) (sits : Sits ids (stmt_of op (Out.Some o) a b)) where
       abbrev st : Stmt
-      st = stmt_of op (Out.Var o) a b
+      st = stmt_of op (Out.Some o) a b
 
       abbrev X : Act → ℕ
       X act = result_by answers h.loads st act (value_by h.bytes a) (value_by h.bytes b)
 
       -- an operation that computes
-      pub output_computes : act_of op ≡ Act.Computes → computes op ≡ true → IsFine (steps Turns.Plain st).made.why → GoesBy st (steps Turns.Plain st)
+      pub output_computes : act_of op ≡ Act.Computes → computes op ≡ true → IsFine (steps Turns.Plain st).made → GoesBy st (steps Turns.Plain st)
       output_computes e c f =
           let s = h.bytes in
           let ch = simplify_of vars Turns.Plain st K in
@@ -172,15 +164,15 @@ module _ (ms : Marks) (answers : List ℕ) (floor : VarId) (vars : Vars) (few : 
           output_makes ms answers floor real ids real_ids u (calm 0) op a b r.first r.second o sits.output_in h g p
           (first_stead vars few st sits k K stage s p.bytewise v) (second_stead vars few st sits k K stage s p.bytewise v) least under vars ch.state.store
           Act.Computes e tt ch.simple tt
-          (widened_wide vars ch.state (put_by s (Out.Var o) (X Act.Computes)) (put_bytes s (Out.Var o) (X Act.Computes) p.bytewise) w.valid o sits.known.output w.inuse) w.worth f in
-          goes_effect ms answers floor vars Act.Computes u st h g (stmts_of (steps Turns.Plain st).made) (steps Turns.Plain st).made.skip (done ++ stmts_of (steps Turns.Plain st).made) ch.state calm e m.effect
+          (widened_wide vars ch.state (put_by s (Out.Some o) (X Act.Computes)) (put_bytes s (Out.Some o) (X Act.Computes) p.bytewise) w.valid o sits.known.output w.inuse) w.worth f in
+          goes_effect ms answers floor vars Act.Computes u st h g (stmts_of (made_in (steps Turns.Plain st).made)) (made_in (steps Turns.Plain st).made).skip (done ++ stmts_of (made_in (steps Turns.Plain st).made)) ch.state calm e m.effect
           (along m.walks w.valid)
 
     -- a load
-    pub output_loads : (n : ℕ) (o : VarNode) → Sits ids (stmt_of (Ops.Load n) (Out.Var o) a b) → IsFine (steps Turns.Plain (stmt_of (Ops.Load n) (Out.Var o) a b)).made.why
-        → GoesBy (stmt_of (Ops.Load n) (Out.Var o) a b) (steps Turns.Plain (stmt_of (Ops.Load n) (Out.Var o) a b))
+    pub output_loads : (n : ℕ) (o : VarNode) → Sits ids (stmt_of (Ops.Load n) (Out.Some o) a b) → IsFine (steps Turns.Plain (stmt_of (Ops.Load n) (Out.Some o) a b)).made
+        → GoesBy (stmt_of (Ops.Load n) (Out.Some o) a b) (steps Turns.Plain (stmt_of (Ops.Load n) (Out.Some o) a b))
     output_loads n o sits f =
-        let st = stmt_of (Ops.Load n) (Out.Var o) a b in
+        let st = stmt_of (Ops.Load n) (Out.Some o) a b in
         let s = h.bytes in
         let x : ℕ = cut (answer_at answers h.loads) o.size in
         let ch = simplify_of vars Turns.Plain st K in
@@ -194,44 +186,44 @@ module _ (ms : Marks) (answers : List ℕ) (floor : VarId) (vars : Vars) (few : 
         output_makes ms answers floor real ids real_ids u (calm 0) (Ops.Load n) a b r.first r.second o sits.output_in h g p
         (first_stead vars few st sits k K stage s p.bytewise v) (second_stead vars few st sits k K stage s p.bytewise v) least under vars ch.state.store
         (Act.Loads n) refl tt ch.simple (stays_loaded n (settled_of (Ops.Load n) (place_of vars o) (operand_bits vars a K₃.store) (operand_bits vars b K₃.store) K₃).outcome o r fair)
-        (widened_wide vars ch.state (put_by s (Out.Var o) x) (put_bytes s (Out.Var o) x p.bytewise) w.valid o sits.known.output w.inuse) w.worth f in
-        goes_effect ms answers floor vars (Act.Loads n) u st h g (stmts_of (steps Turns.Plain st).made) (steps Turns.Plain st).made.skip (done ++ stmts_of (steps Turns.Plain st).made) ch.state calm refl m.effect
+        (widened_wide vars ch.state (put_by s (Out.Some o) x) (put_bytes s (Out.Some o) x p.bytewise) w.valid o sits.known.output w.inuse) w.worth f in
+        goes_effect ms answers floor vars (Act.Loads n) u st h g (stmts_of (made_in (steps Turns.Plain st).made)) (made_in (steps Turns.Plain st).made).skip (done ++ stmts_of (made_in (steps Turns.Plain st).made)) ch.state calm refl m.effect
         (along m.walks w.valid)
 
     -- a branch
     pub goes_jump : (l : PcodeLabel) → Sits ids (stmt_of (Ops.PcodeBranch l) Out.None a b) → GoesBy (stmt_of (Ops.PcodeBranch l) Out.None a b) (steps (Turns.Jump l) (stmt_of (Ops.PcodeBranch l) Out.None a b))
     goes_jump l sits = by (const_of (bits (operand_bits vars a (used_both vars (stmt_of (Ops.PcodeBranch l) Out.None a b) K).store))) refl
       where
-        by : (c : Constant) → const_of (bits (operand_bits vars a (used_both vars (stmt_of (Ops.PcodeBranch l) Out.None a b) K).store)) ≡ c
+        by : (c : Option ℕ) → const_of (bits (operand_bits vars a (used_both vars (stmt_of (Ops.PcodeBranch l) Out.None a b) K).store)) ≡ c
             → GoesBy (stmt_of (Ops.PcodeBranch l) Out.None a b)
             (record {
               state = used_both vars (stmt_of (Ops.PcodeBranch l) Out.None a b) K;
-              made = made_of (used_both vars (stmt_of (Ops.PcodeBranch l) Out.None a b) K).store vars (jump_of c l (replaced_of vars (stmt_of (Ops.PcodeBranch l) Out.None a b) K)) least;
+              made = made_of (used_both vars (stmt_of (Ops.PcodeBranch l) Out.None a b) K).store vars (Ok (jump_of c l (replaced_of vars (stmt_of (Ops.PcodeBranch l) Out.None a b) K))) least;
             })
-        by (Fixed zero) e =
+        by (Some zero) e =
             drops_jump ms answers floor vars few real real_ids u calm h g p done least under k a b (Ops.PcodeBranch l) sits K stage v l refl
             (known_first ms answers floor vars few real real_ids u calm h g p done least under k a b (Ops.PcodeBranch l) sits K stage v 0 e)
-        by (Fixed (suc zero)) e =
+        by (Some (suc zero)) e =
             skips_jump ms answers floor vars few real real_ids u calm h g p done least under k a b (Ops.PcodeBranch l) sits K stage v l refl
             (known_first ms answers floor vars few real real_ids u calm h g p done least under k a b (Ops.PcodeBranch l) sits K stage v 1 e)
-        by (Fixed (suc (suc n))) e = stays_jump ms answers floor vars few real real_ids u calm h g p done least under k a b (Ops.PcodeBranch l) sits K stage v l refl refl
-        by Open e = stays_jump ms answers floor vars few real real_ids u calm h g p done least under k a b (Ops.PcodeBranch l) sits K stage v l refl refl
+        by (Some (suc (suc n))) e = stays_jump ms answers floor vars few real real_ids u calm h g p done least under k a b (Ops.PcodeBranch l) sits K stage v l refl refl
+        by Nothing e = stays_jump ms answers floor vars few real real_ids u calm h g p done least under k a b (Ops.PcodeBranch l) sits K stage v l refl refl
 
     -- an exit
     pub goes_exit : (n : ℕ) → Sits ids (stmt_of (Ops.Branch n) Out.None a b) → GoesBy (stmt_of (Ops.Branch n) Out.None a b) (steps Turns.Exit (stmt_of (Ops.Branch n) Out.None a b))
     goes_exit n sits = by (const_of (bits (operand_bits vars a (used_both vars (stmt_of (Ops.Branch n) Out.None a b) K).store))) refl
       where
-        by : (c : Constant) → const_of (bits (operand_bits vars a (used_both vars (stmt_of (Ops.Branch n) Out.None a b) K).store)) ≡ c
+        by : (c : Option ℕ) → const_of (bits (operand_bits vars a (used_both vars (stmt_of (Ops.Branch n) Out.None a b) K).store)) ≡ c
             → GoesBy (stmt_of (Ops.Branch n) Out.None a b)
             (record {
               state = used_both vars (stmt_of (Ops.Branch n) Out.None a b) K;
-              made = made_of (used_both vars (stmt_of (Ops.Branch n) Out.None a b) K).store vars (exit_of c (replaced_of vars (stmt_of (Ops.Branch n) Out.None a b) K)) least;
+              made = made_of (used_both vars (stmt_of (Ops.Branch n) Out.None a b) K).store vars (Ok (exit_of c (replaced_of vars (stmt_of (Ops.Branch n) Out.None a b) K))) least;
             })
-        by (Fixed zero) e =
+        by (Some zero) e =
             drops_exit ms answers floor vars few real real_ids u calm h g p done least under k a b (Ops.Branch n) sits K stage v n refl
             (known_first ms answers floor vars few real real_ids u calm h g p done least under k a b (Ops.Branch n) sits K stage v 0 e)
-        by (Fixed (suc i)) e = stays_exit ms answers floor vars few real real_ids u calm h g p done least under k a b (Ops.Branch n) sits K stage v n refl
-        by Open e = stays_exit ms answers floor vars few real real_ids u calm h g p done least under k a b (Ops.Branch n) sits K stage v n refl
+        by (Some (suc i)) e = stays_exit ms answers floor vars few real real_ids u calm h g p done least under k a b (Ops.Branch n) sits K stage v n refl
+        by Nothing e = stays_exit ms answers floor vars few real real_ids u calm h g p done least under k a b (Ops.Branch n) sits K stage v n refl
 
     -- a marker
     abbrev K₀ : Known.State
@@ -240,38 +232,38 @@ module _ (ms : Marks) (answers : List ℕ) (floor : VarId) (vars : Vars) (few : 
     abbrev marker : Stmt
     marker = stmt_of Ops.InstructionMarker Out.None a b
 
-    pub goes_marker : Sits ids marker → GoesBy marker (at_other vars least Skips.None Turns.Marker marker K₀)
+    pub goes_marker : Sits ids marker → GoesBy marker (at_other vars least Nothing Turns.Marker marker K₀)
     goes_marker sits =
         let t : State = mixed ms h.changed h.bytes (u 0) in
         let new = replaced_of vars marker K₀ in
         let g₀ = forgotten_stage ids (temporary_flags ms (take 48 vars.ids)) (k + 4) K stage in
-        goes_effect ms answers floor vars Act.Marks u marker h g (new ∷ []) Skips.None (done ++ new ∷ []) (used_both vars marker K₀) calm refl
+        goes_effect ms answers floor vars Act.Marks u marker h g (new ∷ []) Nothing (done ++ new ∷ []) (used_both vars marker K₀) calm refl
         (keeps ms answers floor vars few real real_ids u calm h g p done least under k a b Ops.InstructionMarker sits K₀ g₀ (forgotten_same K h.bytes v) Act.Marks refl)
         (along refl (both_valid vars few marker sits k K₀ g₀ t (mixed_bytes ms answers floor h.changed h.bytes (u 0) p.bytewise (calm 0)) (marker_valid K h.changed h.bytes (u 0) v)))
 
     -- the step of a statement, by its operation
     abbrev stepped : List ℕ → List ℕ → Stmt → Step
-    stepped below made st = Pass.step_by vars (temporary_flags ms (take 48 vars.ids)) below made least Skips.None (turn_of st.op) st K
+    stepped below made st = Pass.step_by vars (temporary_flags ms (take 48 vars.ids)) below made least Nothing (turn_of st.op) st K
 
     -- an operation that computes, with or without an output
-    either : (op : Op) (o : Output) → act_of op ≡ Act.Computes → computes op ≡ true → Sits ids (stmt_of op o a b) → IsFine (steps Turns.Plain (stmt_of op o a b)).made.why
+    either : (op : Op) (o : Output) → act_of op ≡ Act.Computes → computes op ≡ true → Sits ids (stmt_of op o a b) → IsFine (steps Turns.Plain (stmt_of op o a b)).made
         → GoesBy (stmt_of op o a b) (steps Turns.Plain (stmt_of op o a b))
     either op Out.None e c sits f = stays_computes ms answers floor vars few real real_ids u calm h g p done least under k a b op sits K stage v e
-    either op (Out.Var o) e c sits f = output_computes op o sits e c f
+    either op (Out.Some o) e c sits f = output_computes op o sits e c f
 
     pub goes_other : (below made : List ℕ) (op : Op) (o : Output) → Unlabelled op → in_class own_class op ≡ true → Quiet (act_of op) o → Sits ids (stmt_of op o a b)
-        → IsFine (stepped below made (stmt_of op o a b)).made.why → GoesBy (stmt_of op o a b) (stepped below made (stmt_of op o a b))
+        → IsFine (stepped below made (stmt_of op o a b)).made → GoesBy (stmt_of op o a b) (stepped below made (stmt_of op o a b))
     goes_other below made Ops.InstructionMarker Out.None n c q s f = goes_marker s
-    goes_other below made Ops.InstructionMarker (Out.Var o) n c q s f = no_output o q
+    goes_other below made Ops.InstructionMarker (Out.Some o) n c q s f = no_output o q
     goes_other below made (Ops.PcodeLabel l) o n c q s f = absurd n
     goes_other below made (Ops.PcodeBranch l) Out.None n c q s f = goes_jump l s
-    goes_other below made (Ops.PcodeBranch l) (Out.Var o) n c q s f = no_output o q
+    goes_other below made (Ops.PcodeBranch l) (Out.Some o) n c q s f = no_output o q
     goes_other below made (Ops.Branch i) Out.None n c q s f = goes_exit i s
-    goes_other below made (Ops.Branch i) (Out.Var o) n c q s f = no_output o q
+    goes_other below made (Ops.Branch i) (Out.Some o) n c q s f = no_output o q
     goes_other below made (Ops.Load i) Out.None n c q s f = stays_load ms answers floor vars few real real_ids u calm h g p done least under k a b (Ops.Load i) s K stage v i refl
-    goes_other below made (Ops.Load i) (Out.Var o) n c q s f = output_loads i o s f
+    goes_other below made (Ops.Load i) (Out.Some o) n c q s f = output_loads i o s f
     goes_other below made (Ops.Store i) Out.None n c q s f = stays_store ms answers floor vars few real real_ids u calm h g p done least under k a b (Ops.Store i) s K stage v i refl
-    goes_other below made (Ops.Store i) (Out.Var o) n c q s f = no_output o q
+    goes_other below made (Ops.Store i) (Out.Some o) n c q s f = no_output o q
     goes_other below made (Ops.Subpiece i) o n c q s f = either (Ops.Subpiece i) o refl refl s f
     goes_other below made (Ops.One j) o n c q s f = either (Ops.One j) o refl refl s f
     goes_other below made (Ops.Two j) o n c q s f = either (Ops.Two j) o refl refl s f

@@ -1,17 +1,12 @@
 -- Two machines by id that differ in added temporaries only, and how their steps keep them so.
-use Prim.Native.Nat.{ℕ, suc, ◌*◌}
-use native.Mathlib.Omega.{arith}
-use mathlib.Core.Path.{◌≡◌, refl, sym, ap, ap₂, ◌∙◌, subst, fun_ext}
-use mathlib.Core.Bool.{Bool, true, false, not, ◌&&◌, ◌||◌}
-use mathlib.Core.List.{List, ◌∷◌, ◌++◌}
-use borrow.Author.Tests.{eq-eqb}
-use lib.Dec.{eqb, ltb}
+use Rattle.std.proofs.Common.{ℕ, suc, ◌*◌, arith, ◌≡◌, refl, sym, ap, ap₂, ◌∙◌, subst, Bool, true, false, not, ◌&&◌, ◌||◌, List, ◌∷◌, ◌++◌, eq-eqb, eqb, ltb, None as Next}
+use mathlib.Core.Path.{fun_ext}
 use Rattle.pcode.specs.Var.{pick, same_id, less_id, size_of, size_out}
 use Rattle.pcode.specs.Block.{lasting, stmt_of}
 use Rattle.pcode.specs.declared.var.VarId.{VarId}
 use Rattle.pcode.specs.declared.var.Operand.{Operand}
 use Rattle.pcode.specs.declared.var.Operand.TheVariants.{None, Const, Var}
-use Rattle.pcode.specs.declared.var.Output.{Output}
+use Rattle.pcode.specs.Var.{Output}
 use Rattle.pcode.specs.declared.op.Op.{Op}
 use Rattle.pcode.specs.declared.block.Stmt.{Stmt}
 use Rattle.pcode.specs.declared.block.Marks.{Marks}
@@ -21,7 +16,6 @@ use Rattle.live_bytes.specs.Bytes.{inside}
 use Rattle.meaning.specs.Meaning.{meaning}
 use Rattle.step.specs.Steps.{act_of, loads_after, flow_of}
 use Rattle.step.specs.declared.Act.{Act}
-use Rattle.step.specs.declared.Flow.TheVariants.{Next}
 use Rattle.alike.proofs.Fits.{InRow}
 use Rattle.alike.proofs.Havoc.{State, Set, value_by, result_by, mixed, view, Sight, sights_of, Temps, temps_after, bytes_after, Holding, holding, also, reached, rough, run_by}
 use Rattle.alike.proofs.Parts.{Bytewise, value_cong, pick-cong, put_agree, put_bytes}

@@ -1,30 +1,22 @@
 -- A statement's uses, and the output that it writes: what is known after them, and what the statement comes to.
-use Prim.Native.Nat.{ℕ, ◌+◌, ◌*◌, ◌≤◌}
-use native.Mathlib.Omega.{arith}
-use mathlib.Core.Path.{◌≡◌, refl, sym, ◌∙◌, subst}
-use mathlib.Core.Bool.{true}
-use mathlib.Core.List.{List}
-use lib.ListN.{length}
+use Rattle.std.proofs.Common.{ℕ, ◌+◌, ◌*◌, ◌≤◌, arith, ◌≡◌, refl, sym, ◌∙◌, subst, true, List, length, Option, None as Nothing, Some, Result, Ok, Err}
 use Rattle.pcode.specs.Var.{size_of, as_operand}
 use Rattle.pcode.specs.Block.{has_id}
 use Rattle.pcode.specs.Rules.{side_effects}
 use Rattle.pcode.specs.declared.var.VarId.{VarId}
 use Rattle.pcode.specs.declared.var.VarNode.{VarNode}
-use Rattle.pcode.specs.declared.var.Output.TheVariants as Out
+use Rattle.std.specs.declared.option.Option.TheVariants as Out
 use Rattle.pcode.specs.declared.block.Stmt.{Stmt}
 use Rattle.vars.specs.Vars.{row_of, held_ids}
 use Rattle.vars.specs.declared.Vars.{Vars}
 use Rattle.bit_vec.specs.Lists.{bits}
 use Rattle.eval.specs.Held.{coded}
 use Rattle.eval.specs.Eval.{outcome_of}
-use Rattle.eval.specs.declared.Evaluated.{Evaluated}
-use Rattle.eval.specs.declared.Evaluated.TheVariants.{Done, RotateTooFar, BadSizes}
+use Rattle.eval.specs.declared.EvalError.{EvalError}
 use Rattle.eval.proofs.Lengths.{length_outcome}
 use Rattle.const_eval.specs.declared.place.Place.{Place}
 use Rattle.const_eval.specs.Known.{part_of}
 use Rattle.const_eval.specs.State as Known
-use Rattle.const_eval.specs.declared.map.Found.{Found}
-use Rattle.const_eval.specs.declared.map.Found.TheVariants.{Nothing, At}
 use Rattle.const_eval.specs.State.{first_use, map_gives, noted_by, noted}
 use Rattle.const_eval.proofs.Parts.{part_length}
 use Rattle.const_eval.proofs.Keeps.{good_within}
@@ -54,16 +46,16 @@ pub record Sits (ids : List VarId) (st : Stmt) : Type 0 where
 
 -- what is known after an output was written, and what the statement comes to
 pub record Wrote (ids : List VarId) (k : ℕ) (s : State) (o : VarNode) (x : ℕ) (r : Stmt) (c : Change) : Type 0 where
-  pub valid : Valid ids c.state (put_by s (Out.Var o) x)
+  pub valid : Valid ids c.state (put_by s (Out.Some o) x)
   pub worth : Worth ids s o x r c.simple
   pub inuse : InUse c.state.used (row_of ids o.id)
 
 noted_used : (p : Place) (K : Known.State) → (noted p K).used ≡ K.used
 noted_used p K = go (map_gives (part_of p K.store) K)
   where
-    go : (f : Found) → (noted_by f p K).used ≡ K.used
+    go : (f : Option Place) → (noted_by f p K).used ≡ K.used
     go Nothing = refl
-    go (At q) = refl
+    go (Some q) = refl
 
 module _ (vars : Vars) (few : length (held_ids vars) ≤ 48) (st : Stmt) (sits : Sits (held_ids vars) st) where
   abbrev ids : List VarId
@@ -153,7 +145,7 @@ module _ (vars : Vars) (few : length (held_ids vars) ≤ 48) (st : Stmt) (sits :
         abbrev cells : List ℕ
         cells = (outcome_of coded st.op xa xb old).cells
 
-        abbrev fate : Evaluated → Change
+        abbrev fate : Result (Unit {0}) EvalError → Change
         fate r = settled_change (settled_by r cells p xa xb K₃) o (replaced_of vars st K)
 
         long : length cells ≡ 8 * o.size
@@ -161,12 +153,12 @@ module _ (vars : Vars) (few : length (held_ids vars) ≤ 48) (st : Stmt) (sits :
 
         -- the evaluator's cells agree with x
         module _ (gives : (τ : Valuation) → Holds τ xa (low (8 * size_of st.first) (value_by s st.first)) → Holds τ xb (low (8 * size_of st.second) (value_by s st.second))
-            → length old ≡ 8 * o.size → (outcome_of coded st.op xa xb old).answer ≡ Done → Agrees τ (bits cells) (low (8 * o.size) x)) where
-          agrees : (outcome_of coded st.op xa xb old).answer ≡ Done → (τ : Valuation) → Below K₃.tally.next valid₃.values τ → Agrees τ (bits cells) (low (8 * o.size) x)
+            → length old ≡ 8 * o.size → (outcome_of coded st.op xa xb old).answer ≡ Ok tt → Agrees τ (bits cells) (low (8 * o.size) x)) where
+          agrees : (outcome_of coded st.op xa xb old).answer ≡ Ok tt → (τ : Valuation) → Below K₃.tally.next valid₃.values τ → Agrees τ (bits cells) (low (8 * o.size) x)
           agrees e τ b = gives τ (first_holds τ b) (second_holds τ b) old_long e
 
-          by_answer : (r : Evaluated) → (outcome_of coded st.op xa xb old).answer ≡ r → Fair (fate r).simple → Wrote ids k s o x (replaced_of vars st K) (fate r)
-          by_answer Done e f =
+          by_answer : (r : Result (Unit {0}) EvalError) → (outcome_of coded st.op xa xb old).answer ≡ r → Fair (fate r).simple → Wrote ids k s o x (replaced_of vars st K) (fate r)
+          by_answer (Ok z) e f =
               let one = stage_less ids 1 (k + 1) K₃ (omega arith) stage₃ in
               record {
                 valid = valued_valid vars few K₃ s bytes one valid₃ o here fit inuse₃ cells x long (agrees e);
@@ -175,8 +167,7 @@ module _ (vars : Vars) (few : length (held_ids vars) ≤ 48) (st : Stmt) (sits :
                     first_stead second_stead (side_effects st.op);
                 inuse = subst (λ (l : List ℕ). InUse l (row_of ids o.id)) (sym (noted_used p (written p (named K₃.tally.next cells) K₃))) inuse₃;
               }
-          by_answer RotateTooFar e f = absurd f
-          by_answer BadSizes e f = absurd f
+          by_answer (Err z) e f = absurd f
 
           pub wrote : Fair change.simple → Wrote ids k s o x (replaced_of vars st K) change
           wrote f = by_answer (outcome_of coded st.op xa xb old).answer refl f

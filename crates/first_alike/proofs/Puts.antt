@@ -1,17 +1,12 @@
 -- Writes by id: the bytes that a number leaves, writes that change nothing, and writes at a widened size.
-use Prim.Native.Nat.{ℕ, zero, suc, ◌+◌, ◌*◌, ◌-◌, ◌/◌, ◌%◌, ◌^◌, ◌≤◌, ◌<◌}
-use native.Mathlib.Omega.{arith}
-use native.Mathlib.Nat.{pow-suc, div-eq_of_lt, div-div-eq-div-mul, zero-div, div-one}
-use mathlib.Core.Path.{◌≡◌, refl, sym, ap, ap₂, ◌∙◌, subst}
-use mathlib.Core.Bool.{Bool, true, false, ◌&&◌}
-use borrow.Author.Tests.{ltb-true, ltb-false, leb-true}
-use lib.Dec.{ltb, leb}
-use lib.Pow.{pow-add, field, shr-shr, mod-mod-pow}
+use Rattle.std.proofs.Common.{ℕ, zero, suc, ◌+◌, ◌*◌, ◌-◌, ◌/◌, ◌%◌, ◌^◌, ◌≤◌, ◌<◌, arith, pow-suc, div-one, ◌≡◌, refl, sym, ap, ap₂, ◌∙◌, subst, Bool, true, false, ◌&&◌, ltb-true, ltb-false, leb-true, ltb, leb, pow-add, shr-shr}
+use native.Mathlib.Nat.{div-eq_of_lt, div-div-eq-div-mul, zero-div}
+use lib.Pow.{field, mod-mod-pow}
 use Rattle.pcode.specs.Var.{same_id}
 use Rattle.pcode.specs.declared.var.VarId.{VarId}
 use Rattle.pcode.specs.declared.var.VarNode.{VarNode}
 use Rattle.pcode.specs.declared.var.Operand.TheVariants.{Var}
-use Rattle.pcode.specs.declared.var.Output.TheVariants as Out
+use Rattle.std.specs.declared.option.Option.TheVariants as Out
 use Rattle.pcode.proofs.Ids.{same_id_true, same_id_refl}
 use Rattle.vars.proofs.Rows.{ways}
 use Rattle.live_bytes.specs.Bytes.{inside, end_of}
@@ -46,7 +41,7 @@ both_true false b h = absurd (let z : ◌≡◌ {A = ℕ} 0 1 = cc in omega arit
 
 -- a byte that a write names
 pub put_byte : (s : State) (v : VarNode) (x k : ℕ) → v.offset + v.size ≤ 16 → v.offset ≤ k → k < v.offset + v.size
-    → put_by s (Out.Var v) x v.id k ≡ x / 2 ^ (8 * (k - v.offset)) % 256
+    → put_by s (Out.Some v) x v.id k ≡ x / 2 ^ (8 * (k - v.offset)) % 256
 unfolding put_by
 put_byte s v x k f h g =
     rw (same_id_refl v.id, inside_in v k f h g)
@@ -54,11 +49,11 @@ put_byte s v x k f h g =
 
 -- a byte that a write does not name
 pub put_off : (s : State) (v : VarNode) (x : ℕ) (id : VarId) (k : ℕ) → v.offset + v.size ≤ 16 → (v.id ≡ id → v.offset ≤ k → k < v.offset + v.size → ⊥)
-    → put_by s (Out.Var v) x id k ≡ s id k
+    → put_by s (Out.Some v) x id k ≡ s id k
 put_off s v x id k f n =
     ways (names (Var v) id k)
     (λ t. let b = both_true (same_id v.id id) (inside v k) t in let i = inside_out v k f b.1 in absurd (n (same_id_true v.id id b.0) i.0 i.1))
-    (put_other s (Out.Var v) x id k)
+    (put_other s (Out.Some v) x id k)
 
 -- two writes to one place agree where each byte does
 pub put_ext : (s t : State) (v w : VarNode) (x y : ℕ) (id : VarId) (k : ℕ) → v.id ≡ w.id → v.offset + v.size ≤ 16 → w.offset + w.size ≤ 16
@@ -66,31 +61,31 @@ pub put_ext : (s t : State) (v w : VarNode) (x y : ℕ) (id : VarId) (k : ℕ) �
     → (v.id ≡ id → v.offset ≤ k → k < v.offset + v.size → (w.offset ≤ k → k < w.offset + w.size → ⊥) → x / 2 ^ (8 * (k - v.offset)) % 256 ≡ t id k)
     → (v.id ≡ id → w.offset ≤ k → k < w.offset + w.size → (v.offset ≤ k → k < v.offset + v.size → ⊥) → s id k ≡ y / 2 ^ (8 * (k - w.offset)) % 256)
     → ((names (Var v) id k ≡ false) → (names (Var w) id k ≡ false) → s id k ≡ t id k)
-    → put_by s (Out.Var v) x id k ≡ put_by t (Out.Var w) y id k
+    → put_by s (Out.Some v) x id k ≡ put_by t (Out.Some w) y id k
 put_ext s t v w x y id k e f g both left right none =
     ways (names (Var v) id k)
     (λ a.
     let p = both_true (same_id v.id id) (inside v k) a in
     let i = inside_out v k f p.1 in
     let q : v.id ≡ id = same_id_true v.id id p.0 in
-    let l : put_by s (Out.Var v) x id k ≡ x / 2 ^ (8 * (k - v.offset)) % 256 = subst (λ (z : VarId). put_by s (Out.Var v) x z k ≡ x / 2 ^ (8 * (k - v.offset)) % 256) q (put_byte s v x k f i.0 i.1) in
+    let l : put_by s (Out.Some v) x id k ≡ x / 2 ^ (8 * (k - v.offset)) % 256 = subst (λ (z : VarId). put_by s (Out.Some v) x z k ≡ x / 2 ^ (8 * (k - v.offset)) % 256) q (put_byte s v x k f i.0 i.1) in
     ways (names (Var w) id k)
     (λ b.
     let p' = both_true (same_id w.id id) (inside w k) b in
     let j = inside_out w k g p'.1 in
     l ∙ both q i.0 i.1 j.0 j.1 ∙ sym (at_w (sym e ∙ q) j.0 j.1))
-    (λ b. l ∙ left q i.0 i.1 (λ m n. no_w (sym e ∙ q) b m n) ∙ sym (put_other t (Out.Var w) y id k b)))
+    (λ b. l ∙ left q i.0 i.1 (λ m n. no_w (sym e ∙ q) b m n) ∙ sym (put_other t (Out.Some w) y id k b)))
     (λ a.
     ways (names (Var w) id k)
     (λ b.
     let p' = both_true (same_id w.id id) (inside w k) b in
     let j = inside_out w k g p'.1 in
     let q : w.id ≡ id = same_id_true w.id id p'.0 in
-    put_other s (Out.Var v) x id k a ∙ right (e ∙ q) j.0 j.1 (λ m n. no_v (e ∙ q) a m n) ∙ sym (at_w q j.0 j.1))
-    (λ b. put_other s (Out.Var v) x id k a ∙ none a b ∙ sym (put_other t (Out.Var w) y id k b)))
+    put_other s (Out.Some v) x id k a ∙ right (e ∙ q) j.0 j.1 (λ m n. no_v (e ∙ q) a m n) ∙ sym (at_w q j.0 j.1))
+    (λ b. put_other s (Out.Some v) x id k a ∙ none a b ∙ sym (put_other t (Out.Some w) y id k b)))
   where
-    at_w : w.id ≡ id → w.offset ≤ k → k < w.offset + w.size → put_by t (Out.Var w) y id k ≡ y / 2 ^ (8 * (k - w.offset)) % 256
-    at_w q h l = subst (λ (z : VarId). put_by t (Out.Var w) y z k ≡ y / 2 ^ (8 * (k - w.offset)) % 256) q (put_byte t w y k g h l)
+    at_w : w.id ≡ id → w.offset ≤ k → k < w.offset + w.size → put_by t (Out.Some w) y id k ≡ y / 2 ^ (8 * (k - w.offset)) % 256
+    at_w q h l = subst (λ (z : VarId). put_by t (Out.Some w) y z k ≡ y / 2 ^ (8 * (k - w.offset)) % 256) q (put_byte t w y k g h l)
 
     named_in : (u : VarNode) → u.offset + u.size ≤ 16 → u.id ≡ id → u.offset ≤ k → k < u.offset + u.size → names (Var u) id k ≡ true
     named_in u f q h l = subst (λ (z : VarId). names (Var u) z k ≡ true) q (ap₂ (λ (a b : Bool). a && b) (same_id_refl u.id) (inside_in u k f h l))
@@ -119,7 +114,7 @@ byte_past x n i h l =
 
 -- a write of a number with the same low bytes
 pub put_same : (s : State) (v : VarNode) (x y : ℕ) (id : VarId) (k : ℕ) → v.offset + v.size ≤ 16 → x % 2 ^ (8 * v.size) ≡ y % 2 ^ (8 * v.size)
-    → put_by s (Out.Var v) x id k ≡ put_by s (Out.Var v) y id k
+    → put_by s (Out.Some v) x id k ≡ put_by s (Out.Some v) y id k
 put_same s v x y id k f e =
     put_ext s s v v x y id k refl f f
     (λ q a b c d. sym (byte_mod x v.size (k - v.offset) (omega arith)) ∙ ap (λ (m : ℕ). m / 2 ^ (8 * (k - v.offset)) % 256) e ∙ byte_mod y v.size (k - v.offset) (omega arith))
@@ -148,7 +143,7 @@ num_byte s id o (suc n) (suc i) h l =
 
 -- a write of what is there
 pub put_still : (s : State) (v : VarNode) (x : ℕ) (id : VarId) (k : ℕ) → Bytewise s → v.offset + v.size ≤ 16 → x % 2 ^ (8 * v.size) ≡ num_by s v.id v.offset v.size
-    → put_by s (Out.Var v) x id k ≡ s id k
+    → put_by s (Out.Some v) x id k ≡ s id k
 put_still s v x id k b f e =
     ways (names (Var v) id k)
     (λ t.
@@ -160,13 +155,13 @@ put_still s v x id k b f e =
     let m : x / 2 ^ (8 * j) % 256 ≡ s v.id k =
     sym (byte_mod x v.size j (omega (arith, i.0, i.1))) ∙ ap (λ (n : ℕ). n / 2 ^ (8 * j) % 256) e
     ∙ num_byte s v.id v.offset v.size j b (omega (arith, i.0, i.1)) ∙ ap (s v.id) z in
-    subst (λ (w : VarId). put_by s (Out.Var v) x w k ≡ s w k) q (put_byte s v x k f i.0 i.1 ∙ m))
-    (put_other s (Out.Var v) x id k)
+    subst (λ (w : VarId). put_by s (Out.Some v) x w k ≡ s w k) q (put_byte s v x k f i.0 i.1 ∙ m))
+    (put_other s (Out.Some v) x id k)
 
 -- a write at a widened size, where the bytes above were zero
 pub put_wide : (s : State) (v : VarNode) (w x : ℕ) (id : VarId) (k : ℕ) → v.offset ≡ 0 → v.size ≤ w → w ≤ 16 → x < 2 ^ (8 * v.size)
     → ((j : ℕ) → v.size ≤ j → j < w → s v.id j ≡ 0)
-    → put_by s (Out.Var v) x id k ≡ put_by s (Out.Var (record { id = v.id; offset = 0; size = w })) x id k
+    → put_by s (Out.Some v) x id k ≡ put_by s (Out.Some (record { id = v.id; offset = 0; size = w })) x id k
 put_wide s v w x id k z l m b h =
     put_ext s s v (record { id = v.id; offset = 0; size = w }) x x id k refl (omega (arith, z)) (omega arith)
     (λ q a c d e. ap (λ (o : ℕ). x / 2 ^ (8 * (k - o)) % 256) z)

@@ -1,14 +1,5 @@
 -- A settled statement: what is known after it is valid for the state after the run's step, and what becomes of it has the same effect.
-use Prim.Native.Nat.{ℕ, zero, suc, ◌+◌, ◌*◌, ◌%◌, ◌^◌, ◌≤◌, ◌<◌}
-use native.Mathlib.Omega.{arith}
-use native.Mathlib.Nat.{mod-lt, mod-eq_of_lt}
-use mathlib.Core.Path.{◌≡◌, refl, sym, ap, ap₂, ◌∙◌, subst}
-use mathlib.Core.Bool.{Bool, true, false}
-use mathlib.Core.List.{List, [], ◌∷◌}
-use borrow.Author.Tests.{eqb-true}
-use lib.Dec.{eqb}
-use lib.Pow.{pow_pos}
-use lib.ListN.{length, replicate}
+use Rattle.std.proofs.Common.{Option, None as Nothing, Some, Result, Ok, Err, ℕ, zero, suc, ◌+◌, ◌*◌, ◌%◌, ◌^◌, ◌≤◌, ◌<◌, arith, mod-lt, mod-eq_of_lt, ◌≡◌, refl, sym, ap, ap₂, ◌∙◌, subst, Bool, true, false, List, [], ◌∷◌, eqb-true, eqb, pow_pos, length, replicate}
 use Rattle.pcode.specs.Var.{pick, size_of}
 use Rattle.pcode.specs.Block.{has_id}
 use Rattle.pcode.specs.Rules.{size_rule}
@@ -16,7 +7,7 @@ use Rattle.pcode.specs.declared.var.VarId.{VarId}
 use Rattle.pcode.specs.declared.var.VarNode.{VarNode}
 use Rattle.pcode.specs.declared.var.Operand.{Operand}
 use Rattle.pcode.specs.declared.var.Operand.TheVariants.{Const}
-use Rattle.pcode.specs.declared.var.Output.TheVariants as Out
+use Rattle.std.specs.declared.option.Option.TheVariants as Out
 use Rattle.pcode.specs.declared.op.Op.{Op}
 use Rattle.pcode.specs.declared.op.Op.TheVariants.{Load}
 use Rattle.pcode.specs.declared.block.Stmt.{Stmt}
@@ -26,15 +17,13 @@ use Rattle.vars.proofs.Rows.{ways}
 use Rattle.bit.specs.Bits.{code_of, pick as choose}
 use Rattle.bit.specs.declared.Bit.TheVariants.{Unknown}
 use Rattle.bit.proofs.Codes.{round}
-use Rattle.bit_vec.specs.declared.known.Constant.{Constant}
-use Rattle.bit_vec.specs.declared.known.Constant.TheVariants.{Known as Fixed, Open}
 use Rattle.bit_vec.specs.Lists.{bits}
 use Rattle.bit_vec.specs.Known.{const_of}
 use Rattle.eval.specs.Held.{coded}
 use Rattle.eval.specs.Sizes.{fits_bits}
 use Rattle.eval.specs.Eval.{Outcome, done, family_of, outcome_of}
-use Rattle.eval.specs.declared.Evaluated.{Evaluated}
-use Rattle.eval.specs.declared.Evaluated.TheVariants.{Done, BadSizes}
+use Rattle.eval.specs.declared.EvalError.{EvalError}
+use Rattle.eval.specs.declared.EvalError.TheVariants.{BadSizes}
 use Rattle.meaning.specs.Meaning.{meaning}
 use Rattle.const_eval.specs.declared.place.Place.{Place}
 use Rattle.const_eval.specs.Known.{part_of, same_codes}
@@ -76,14 +65,14 @@ agree_none τ (y ∷ old) n x e l = absurd (omega (arith, e))
 
 -- the evaluator's cells, by its two tests
 abbrev outcome : Op → List ℕ → List ℕ → List ℕ → Bool → Bool → Outcome ℕ
-outcome op xa xb old t u = choose t (done old) (choose u (family_of coded op xa xb old) (record { answer = BadSizes; cells = old }))
+outcome op xa xb old t u = choose t (done old) (choose u (family_of coded op xa xb old) (record { answer = Err BadSizes; cells = old }))
 
-not_done : {R : Type 0} → ◌≡◌ {A = Evaluated} BadSizes Done → R
-not_done e = absurd (let z : ◌≡◌ {A = ℕ} 0 1 = cc in omega arith)
+not_done : {R : Type 0} → ◌≡◌ {A = Result (Unit {0}) EvalError} (Err BadSizes) (Ok tt) → R
+not_done e = absurd (cc)
 
 -- an operation that computes agrees with its meaning
 pub computes_agrees : (op : Op) → computes op ≡ true → (τ : Valuation) (xa xb old : List ℕ) (a b n va vb : ℕ) → Holds τ xa (low (8 * a) va) → Holds τ xb (low (8 * b) vb)
-    → va < 2 ^ (8 * a) → vb < 2 ^ (8 * b) → length old ≡ 8 * n → (outcome_of coded op xa xb old).answer ≡ Done
+    → va < 2 ^ (8 * a) → vb < 2 ^ (8 * b) → length old ≡ 8 * n → (outcome_of coded op xa xb old).answer ≡ Ok tt
     → Agrees τ (bits (outcome_of coded op xa xb old).cells) (low (8 * n) (meaning op (8 * a) (8 * n) va vb))
 computes_agrees op c τ xa xb old a b n va vb ha hb la lb lo d = ways (fits_bits (size_rule op) (length xa) (length xb) (length old)) fits wrong
   where
@@ -98,14 +87,14 @@ computes_agrees op c τ xa xb old a b n va vb ha hb la lb lo d = ways (fits_bits
         subst (λ (vs : List Bool). Agrees τ (bits (outcome_of coded op xa xb old).cells) vs) m
         (sound_coded op c τ xa xb old (low (8 * a) va) (low (8 * b) vb) e (holds_agrees τ xa (low (8 * a) va) ha) (holds_agrees τ xb (low (8 * b) vb) hb))
 
-    none : (t : Bool) → eqb (length old) 0 ≡ t → (outcome op xa xb old t false).answer ≡ Done
+    none : (t : Bool) → eqb (length old) 0 ≡ t → (outcome op xa xb old t false).answer ≡ Ok tt
         → Agrees τ (bits (outcome op xa xb old t false).cells) (low (8 * n) (meaning op (8 * a) (8 * n) va vb))
     none true e d = agree_none τ old n _ (eqb-true (length old) 0 e) lo
     none false e d = not_done d
 
     wrong : fits_bits (size_rule op) (length xa) (length xb) (length old) ≡ false → Agrees τ (bits (outcome_of coded op xa xb old).cells) (low (8 * n) (meaning op (8 * a) (8 * n) va vb))
     wrong e =
-        subst (λ (u : Bool). (outcome op xa xb old (eqb (length old) 0) u).answer ≡ Done → Agrees τ (bits (outcome op xa xb old (eqb (length old) 0) u).cells) (low (8 * n) (meaning op (8 * a) (8 * n) va vb)))
+        subst (λ (u : Bool). (outcome op xa xb old (eqb (length old) 0) u).answer ≡ Ok tt → Agrees τ (bits (outcome op xa xb old (eqb (length old) 0) u).cells) (low (8 * n) (meaning op (8 * a) (8 * n) va vb)))
         (sym e) (none (eqb (length old) 0) refl) d
 
 -- a load agrees with any answer
@@ -117,22 +106,20 @@ load_agrees m τ xa xb old n x lo = go (eqb (length old) 0) refl
     go false e = agree_unknown τ (length old) (low (8 * n) x) (length_low (8 * n) x ∙ sym lo)
 
 -- what becomes of a statement that writes x to o
-abbrev pub Worth : List VarId → State → VarNode → ℕ → Stmt → Simple → Type 0
-Worth ids s o x st Simples.Dropped = x % 2 ^ (8 * o.size) ≡ num_by s o.id o.offset o.size
-Worth ids s o x st (Simples.Skips l) = ⊥
-Worth ids s o x st (Simples.Copies q a) = (q ≡ o) × (value_by s a ≡ x % 2 ^ (8 * o.size)) × KnownIn ids a × InRow a × Canon a × (size_of a ≡ o.size)
-Worth ids s o x st (Simples.Stays r) = r ≡ st
-Worth ids s o x st Simples.TooFar = Unit {0}
-Worth ids s o x st Simples.BadSizes = Unit {0}
+abbrev pub Worth : List VarId → State → VarNode → ℕ → Stmt → Result Simple EvalError → Type 0
+Worth ids s o x st (Ok Simples.Dropped) = x % 2 ^ (8 * o.size) ≡ num_by s o.id o.offset o.size
+Worth ids s o x st (Ok (Simples.Skips l)) = ⊥
+Worth ids s o x st (Ok (Simples.Copies q a)) = (q ≡ o) × (value_by s a ≡ x % 2 ^ (8 * o.size)) × KnownIn ids a × InRow a × Canon a × (size_of a ≡ o.size)
+Worth ids s o x st (Ok (Simples.Stays r)) = r ≡ st
+Worth ids s o x st (Err e) = Unit {0}
 
 -- not refused
-abbrev pub Fair : Simple → Type 0
-Fair Simples.Dropped = Unit {0}
-Fair (Simples.Skips l) = Unit {0}
-Fair (Simples.Copies q a) = Unit {0}
-Fair (Simples.Stays r) = Unit {0}
-Fair Simples.TooFar = ⊥
-Fair Simples.BadSizes = ⊥
+abbrev pub Fair : Result Simple EvalError → Type 0
+Fair (Ok Simples.Dropped) = Unit {0}
+Fair (Ok (Simples.Skips l)) = Unit {0}
+Fair (Ok (Simples.Copies q a)) = Unit {0}
+Fair (Ok (Simples.Stays r)) = Unit {0}
+Fair (Err e) = ⊥
 
 module _ (vars : Vars) (few : length (held_ids vars) ≤ 48) (K : Known.State) (s : State) (bytes : Bytewise s) (stage : Stage (held_ids vars) 1 K) (v : Valid (held_ids vars) K s)
     (o : VarNode) (here : has_id (held_ids vars) o.id ≡ true) (fit : o.offset + o.size ≤ 16) (inuse : InUse K.used (row_of (held_ids vars) o.id)) where
@@ -164,15 +151,15 @@ module _ (vars : Vars) (few : length (held_ids vars) ≤ 48) (K : Known.State) (
     new_long : length new ≡ 8 * o.size
     new_long = named_length K.tally.next cells ∙ long
 
-    written_valid : Valid ids (written p new K) (put_by s (Out.Var o) x)
+    written_valid : Valid ids (written p new K) (put_by s (Out.Some o) x)
     written_valid =
         record {
           values = now;
           rows = λ τ b. written_rows ids τ K.used K.store s (v.rows τ (more_below v.values τ K.tally.next (low (8 * o.size) x) b)) o here fit in_store new x new_long (new_holds τ b);
         }
 
-    pub valued_valid : Valid ids (noted p (written p new K)) (put_by s (Out.Var o) x)
-    valued_valid = noted_valid ids p (written p new K) (put_by s (Out.Var o) x) written_valid
+    pub valued_valid : Valid ids (noted p (written p new K)) (put_by s (Out.Some o) x)
+    valued_valid = noted_valid ids p (written p new K) (put_by s (Out.Some o) x) written_valid
 
     -- the operands that the evaluator read, and what stands in their place
     module _ (a b : Operand) (xa xb : List ℕ) (st : Stmt) (ha : (τ : Valuation) → Below K.tally.next v.values τ → Holds τ xa (low (8 * size_of a) (value_by s a)))
@@ -184,31 +171,31 @@ module _ (vars : Vars) (few : length (held_ids vars) ≤ 48) (K : Known.State) (
       same : Holds now new (low (8 * o.size) x)
       same = new_holds now (λ i l w. refl)
 
-      stays : (e : Bool) (r : Simple) → Worth ids s o x st r → Worth ids s o x st (pick e (Simples.Stays st) r)
+      stays : (e : Bool) (r : Simple) → Worth ids s o x st (Ok r) → Worth ids s o x st (Ok (pick e (Simples.Stays st) r))
       stays true r h = refl
       stays false r h = h
 
       copies : (e : Bool) (c d : Operand) (xc : List ℕ) → Stead ids s c d → Holds now xc (low (8 * size_of c) (value_by s c)) → same_codes xc new ≡ true
-          → Worth ids s o x st (pick e (Simples.Stays st) (Simples.Copies o d))
+          → Worth ids s o x st (Ok (pick e (Simples.Stays st) (Simples.Copies o d)))
       copies e c d xc sd hc t =
           let q : xc ≡ new = same_sound xc new t in
           let m = same_number vars few now new (size_of c) o.size (value_by s c) x (subst (λ (l : List ℕ). Holds now l (low (8 * size_of c) (value_by s c))) q hc) same in
           let l : value_by s c < 2 ^ (8 * o.size) = subst (λ (i : ℕ). value_by s c < 2 ^ (8 * i)) m.0 (value_small s c bytes) in
           stays e (Simples.Copies o d) (refl, sd.value ∙ sym (mod-eq_of_lt l) ∙ m.1, sd.known, sd.in_row, sd.canon, sd.size ∙ m.0)
 
-      source : (e : Bool) (t u : Bool) → same_codes xa new ≡ t → same_codes xb new ≡ u → Worth ids s o x st (simple_by (pick t Fates.First (pick u Fates.Second Fates.Stays)) e o st)
+      source : (e : Bool) (t u : Bool) → same_codes xa new ≡ t → same_codes xb new ≡ u → Worth ids s o x st (simple_by (Ok (pick t Fates.First (pick u Fates.Second Fates.Stays))) e o st)
       source e true u p q = copies e a st.first xa sa (ha now now_below) p
       source e false true p q = copies e b st.second xb sb (hb now now_below) q
       source e false false p q = refl
 
-      constant : (e : Bool) (c : Constant) → const_of (bits new) ≡ c → Worth ids s o x st (simple_by (decide_by c (source_of new xa xb)) e o st)
-      constant e (Fixed k) q =
+      constant : (e : Bool) (c : Option ℕ) → const_of (bits new) ≡ c → Worth ids s o x st (simple_by (Ok (decide_by c (source_of new xa xb))) e o st)
+      constant e (Some k) q =
           let m : k ≡ x % 2 ^ (8 * o.size) = const_value vars few now new (8 * o.size) x k same q in
           let l : k < 2 ^ (8 * o.size) = subst (λ (i : ℕ). i < 2 ^ (8 * o.size)) (sym m) (mod-lt x (pow_pos (8 * o.size))) in
           stays e (Simples.Copies o (Const k o.size)) (refl, mod-eq_of_lt l ∙ m, tt, tt, l, refl)
-      constant e Open q = source e (same_codes xa new) (same_codes xb new) refl refl
+      constant e Nothing q = source e (same_codes xa new) (same_codes xb new) refl refl
 
-      decided : (e t : Bool) → same_codes (part_of p K.store) new ≡ t → Worth ids s o x st (simple_by (pick t Fates.Unchanged (decide_by (const_of (bits new)) (source_of new xa xb))) e o st)
+      decided : (e t : Bool) → same_codes (part_of p K.store) new ≡ t → Worth ids s o x st (simple_by (Ok (pick t Fates.Unchanged (decide_by (const_of (bits new)) (source_of new xa xb)))) e o st)
       decided e true q =
           let g : part_of p K.store ≡ new = same_sound (part_of p K.store) new q in
           let h = part_holds ids now K.used K.store s bytes (v.rows now now_below) o.id here inuse o.offset o.size fit in
@@ -216,5 +203,5 @@ module _ (vars : Vars) (few : length (held_ids vars) ≤ 48) (K : Known.State) (
           stays e Simples.Dropped (sym m.1 ∙ mod-eq_of_lt (num_small s o.id o.offset o.size bytes))
       decided e false q = constant e (const_of (bits new)) refl
 
-      pub valued_worth : (e : Bool) → Worth ids s o x st (simple_by (decide_of (part_of p K.store) new xa xb) e o st)
+      pub valued_worth : (e : Bool) → Worth ids s o x st (simple_by (Ok (decide_of (part_of p K.store) new xa xb)) e o st)
       valued_worth e = decided e (same_codes (part_of p K.store) new) refl

@@ -1,10 +1,6 @@
 -- Parts of a list in which a part was replaced.
-use Prim.Native.Nat.{ℕ, zero, suc, ◌+◌, ◌-◌, ◌≤◌}
-use native.Mathlib.Omega.{arith}
-use mathlib.Core.Path.{◌≡◌, refl, sym, ap, ◌∙◌}
-use mathlib.Core.List.{List, [], ◌∷◌, ◌++◌}
-use lib.ListN.{length, take, drop, length-drop}
-use lib.Seq.{length-take-le, take-take, take-append-le, drop-append-le, drop-append-add, drop-drop}
+use Rattle.std.proofs.Common.{ℕ, zero, suc, ◌+◌, ◌-◌, ◌≤◌, arith, ◌≡◌, refl, sym, ap, ◌∙◌, List, [], ◌∷◌, ◌++◌, length, take, drop, length-drop, length-take-le, take-take, drop-drop}
+use lib.Seq.{take-append-le, drop-append-le, drop-append-add}
 use Rattle.const_eval.specs.Known.{splice}
 
 -- a part below n is a part of the first n

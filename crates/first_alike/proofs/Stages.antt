@@ -1,24 +1,18 @@
 -- What holds of the pass's knowledge throughout, over any statement: lengths, room, and entries on rows in use.
-use Prim.Native.Nat.{ℕ, ◌+◌, ◌≤◌}
-use native.Mathlib.Omega.{arith}
-use mathlib.Core.Path.{◌≡◌, refl, ◌∙◌}
-use mathlib.Core.Bool.{true}
-use mathlib.Core.List.{List}
-use lib.ListN.{length}
+use Rattle.std.proofs.Common.{ℕ, ◌+◌, ◌≤◌, arith, ◌≡◌, refl, ◌∙◌, true, List, length, Result, Ok, Err}
 use Rattle.pcode.specs.Var.{as_operand}
 use Rattle.pcode.specs.Block.{has_id}
 use Rattle.pcode.specs.declared.var.VarId.{VarId}
 use Rattle.pcode.specs.declared.var.VarNode.{VarNode}
-use Rattle.pcode.specs.declared.var.Output.{Output}
-use Rattle.pcode.specs.declared.var.Output.TheVariants as Out
+use Rattle.pcode.specs.Var.{Output}
+use Rattle.std.specs.declared.option.Option.TheVariants as Out
 use Rattle.pcode.specs.declared.op.Op.{Op}
 use Rattle.pcode.specs.declared.block.Stmt.{Stmt}
 use Rattle.vars.specs.Vars.{row_of, held_ids}
 use Rattle.vars.specs.declared.Vars.{Vars}
 use Rattle.eval.specs.Held.{coded}
 use Rattle.eval.specs.Eval.{outcome_of}
-use Rattle.eval.specs.declared.Evaluated.{Evaluated}
-use Rattle.eval.specs.declared.Evaluated.TheVariants.{Done, RotateTooFar, BadSizes}
+use Rattle.eval.specs.declared.EvalError.{EvalError}
 use Rattle.const_eval.specs.declared.place.Place.{Place}
 use Rattle.const_eval.specs.Known.{part_of}
 use Rattle.const_eval.specs.State as Known
@@ -65,16 +59,15 @@ module _ (vars : Vars) (few : length (held_ids vars) ≤ 48) where
     abbrev p : Place
     p = place_of vars o
 
-    settled_live : (op : Op) (xa xb : List ℕ) (K : Known.State) → Stage ids 1 K → InUse K.used (row_of ids o.id) → (r : Evaluated)
+    settled_live : (op : Op) (xa xb : List ℕ) (K : Known.State) → Stage ids 1 K → InUse K.used (row_of ids o.id) → (r : Result (Unit {0}) EvalError)
         → Live ids (settled_by r (outcome_of coded op xa xb (part_of p K.store)).cells p xa xb K).state.used
         (entries_of (settled_by r (outcome_of coded op xa xb (part_of p K.store)).cells p xa xb K).state)
-    settled_live op xa xb K g u Done =
+    settled_live op xa xb K g u (Ok z) =
         let f = own_fit ids few p o.id here refl fit K g.full in
         let new = named K.tally.next (outcome_of coded op xa xb (part_of p K.store)).cells in
         noted_live ids few p o.id here refl fit (written p new K)
         (written_room p new K g.able f (value_length op p xa xb K.store K.tally.next (good_within p K g.able.good f))) u g.live
-    settled_live op xa xb K g u RotateTooFar = g.live
-    settled_live op xa xb K g u BadSizes = g.live
+    settled_live op xa xb K g u (Err z) = g.live
 
     pub settled_stage : (op : Op) (xa xb : List ℕ) (k : ℕ) (K : Known.State) → Stage ids (k + 1) K → InUse K.used (row_of ids o.id) → Stage ids k (settled_of op p xa xb K).state
     settled_stage op xa xb k K g u =
@@ -97,11 +90,11 @@ module _ (vars : Vars) (few : length (held_ids vars) ≤ 48) where
   plain_stage : (xa xb : List ℕ → List ℕ) (o : Output) (st : Stmt) (k : ℕ) (K : Known.State) → KnownIn ids (as_operand o) → InRow (as_operand o) → Stage ids (k + 2) K
       → Stage ids k (plain_of vars xa xb o st K).state
   plain_stage xa xb Out.None st k K h f g = stage_less ids k (k + 2) K (omega arith) g
-  plain_stage xa xb (Out.Var o) st k K h f g = write_stage o h f xa xb st k K g
+  plain_stage xa xb (Out.Some o) st k K h f g = write_stage o h f xa xb st k K g
 
   hooked_stage : (o : Output) (st : Stmt) (k : ℕ) (K : Known.State) → KnownIn ids (as_operand o) → InRow (as_operand o) → Stage ids (k + 2) K → Stage ids k (hook_of vars o st K).state
   hooked_stage Out.None st k K h f g = stage_less ids k (k + 2) (cleared K) (omega arith) (cleared_stage ids (k + 2) K g)
-  hooked_stage (Out.Var o) st k K h f g = hook_stage o h f k K g
+  hooked_stage (Out.Some o) st k K h f g = hook_stage o h f k K g
 
   turned_stage : (xa xb : List ℕ → List ℕ) (t : Turn) (st : Stmt) (k : ℕ) (K : Known.State) → KnownIn ids (as_operand st.output) → InRow (as_operand st.output) → Stage ids (k + 2) K
       → Stage ids k (turned vars xa xb t st K).state

@@ -1,12 +1,5 @@
 -- Codes that hold truth values: every code is decided by the valuation, so that equal codes hold equal values.
-use Prim.Native.Nat.{ℕ, zero, suc, ◌+◌, ◌*◌, ◌/◌, ◌%◌, ◌≤◌, ◌<◌}
-use native.Mathlib.Omega.{arith}
-use native.Mathlib.Nat.{add-zero, mod-lt}
-use mathlib.Core.Path.{◌≡◌, refl, sym, ap, ap₂, ◌∙◌, subst}
-use mathlib.Core.Bool.{Bool, true, false}
-use mathlib.Core.List.{List, [], ◌∷◌, ◌++◌}
-use lib.Dec.{eqb, lit<}
-use lib.ListN.{length, take, drop, get_or}
+use Rattle.std.proofs.Common.{ℕ, zero, suc, ◌+◌, ◌*◌, ◌/◌, ◌%◌, ◌≤◌, ◌<◌, arith, add-zero, mod-lt, ◌≡◌, refl, sym, ap, ap₂, ◌∙◌, subst, Bool, true, false, List, [], ◌∷◌, ◌++◌, eqb, lit<, length, take, drop, get_or}
 use Rattle.bit.specs.Bits.{one_if, pick, bit_of, code_of}
 use Rattle.bit.specs.declared.Expr.{Expr}
 use Rattle.bit.specs.declared.Bit.{Bit}

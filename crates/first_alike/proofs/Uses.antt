@@ -1,20 +1,11 @@
 -- Uses: a row's first use keeps knowledge valid and the value map's entries on rows in use.
-use Prim.Native.Nat.{ℕ, ◌+◌, ◌*◌, ◌≤◌}
-use native.Mathlib.Omega.{arith}
-use mathlib.Core.Path.{◌≡◌, sym, ◌∙◌, subst}
-use mathlib.Core.Bool.{Bool, true, false}
-use mathlib.Core.List.{List, [], ◌∷◌}
-use lib.Dec.{eqb}
-use lib.ListN.{length, get_or}
-use lib.Seq.{get_or-set_same}
+use Rattle.std.proofs.Common.{Option, None as Nothing, Some, ℕ, ◌+◌, ◌*◌, ◌≤◌, arith, ◌≡◌, sym, ◌∙◌, subst, Bool, true, false, List, [], ◌∷◌, eqb, length, get_or, get_or-set_same}
 use Rattle.pcode.specs.Var.{pick}
 use Rattle.pcode.specs.Block.{has_id}
 use Rattle.pcode.specs.declared.var.VarId.{VarId}
 use Rattle.vars.specs.Vars.{row_of}
 use Rattle.vars.proofs.Rows.{row_below}
 use Rattle.const_eval.specs.declared.place.Place.{Place}
-use Rattle.const_eval.specs.declared.map.Found.{Found}
-use Rattle.const_eval.specs.declared.map.Found.TheVariants.{Nothing, At}
 use Rattle.const_eval.specs.Known.{part_of, fresh_row, same_codes, Fit, Within}
 use Rattle.const_eval.specs.Map.{Entry, Short, find_e, lookup_of, if_still}
 use Rattle.const_eval.specs.State as Known
@@ -54,31 +45,31 @@ module _ (ids : List VarId) where
   unfolding Live
   live_cons used e es h g = (h, g)
 
-  no_part : {R : Type 0} (p : Place) → ◌≡◌ {A = Found} Nothing (At p) → R
+  no_part : {R : Type 0} (p : Place) → ◌≡◌ {A = Option Place} Nothing (Some p) → R
   no_part p q = absurd (let z : ◌≡◌ {A = ℕ} 0 1 = cc in omega arith)
 
-  found_step : (used : List ℕ) (e : Entry) (p : Place) (t : Bool) (r : Found) → LiveRow used e.place.row → (r ≡ At p → LiveRow used p.row)
-      → pick t (At e.place) r ≡ At p → LiveRow used p.row
+  found_step : (used : List ℕ) (e : Entry) (p : Place) (t : Bool) (r : Option Place) → LiveRow used e.place.row → (r ≡ Some p → LiveRow used p.row)
+      → pick t (Some e.place) r ≡ Some p → LiveRow used p.row
   found_step used e p true r f k q =
       let z : e.place ≡ p = cc in
       subst (λ (x : Place). LiveRow used x.row) z f
   found_step used e p false r f k q = k q
 
-  live_found : (used : List ℕ) (es : List Entry) (key : List ℕ) (p : Place) → Live used es → find_e key es ≡ At p → LiveRow used p.row
+  live_found : (used : List ℕ) (es : List Entry) (key : List ℕ) (p : Place) → Live used es → find_e key es ≡ Some p → LiveRow used p.row
   unfolding Live
   live_found used [] key p h q = no_part p q
   live_found used (e ∷ es) key p h q = found_step used e p (same_codes e.key key) (find_e key es) h.0 (live_found used es key p h.1) q
 
-  still_found : (store key : List ℕ) (f : Found) (p : Place) → if_still store key f ≡ At p → f ≡ At p
+  still_found : (store key : List ℕ) (f : Option Place) (p : Place) → if_still store key f ≡ Some p → f ≡ Some p
   still_found store key Nothing p q = no_part p q
-  still_found store key (At r) p q = go (same_codes (part_of r store) key) q
+  still_found store key (Some r) p q = go (same_codes (part_of r store) key) q
     where
-      go : (t : Bool) → pick t (At r) Nothing ≡ At p → ◌≡◌ {A = Found} (At r) (At p)
+      go : (t : Bool) → pick t (Some r) Nothing ≡ Some p → ◌≡◌ {A = Option Place} (Some r) (Some p)
       go true q = q
       go false q = no_part p q
 
   -- a part that the map gives is in a row in use
-  pub live_given : (used store : List ℕ) (es : List Entry) (key : List ℕ) (p : Place) → Live used es → lookup_of store es key ≡ At p → LiveRow used p.row
+  pub live_given : (used store : List ℕ) (es : List Entry) (key : List ℕ) (p : Place) → Live used es → lookup_of store es key ≡ Some p → LiveRow used p.row
   live_given used store es key p h q = live_found used es key p h (still_found store key (find_e key es) p q)
 
   -- what holds of the pass's knowledge at each statement, with room for k more
@@ -166,7 +157,7 @@ module _ (ids : List VarId) where
     pub noted_live : (K : Known.State) → Room p K → InUse K.used p.row → Live K.used (entries_of K) → Live (noted p K).used (entries_of (noted p K))
     noted_live K r u l = go (map_gives (part_of p K.store) K)
       where
-        go : (f : Found) → Live (noted_by f p K).used (entries_of (noted_by f p K))
+        go : (f : Option Place) → Live (noted_by f p K).used (entries_of (noted_by f p K))
         go Nothing =
             entered_live p K (inside_short (length K.store) (entries_of K) r.good.inside) (good_within p K r.good r.part_in) r.more (own_live K.used u) l
-        go (At q) = l
+        go (Some q) = l

@@ -1,22 +1,14 @@
 -- What the first pass knows is valid for a state: some valuation of the expressions made so far, however it goes on, makes the codes of every row in
 -- use hold the bytes of that row's variable.
-use Prim.Native.Nat.{ℕ, zero, suc, ◌+◌, ◌*◌, ◌-◌, ◌≤◌, ◌<◌}
-use native.Mathlib.Omega.{arith}
-use mathlib.Core.Path.{◌≡◌, refl, sym, ap, ◌∙◌, subst}
-use mathlib.Core.Bool.{Bool, true, false}
-use mathlib.Core.List.{List, [], ◌∷◌}
-use borrow.Author.Tests.{eqb-true, eqb-false, eq-eqb, ne_eqb, ltb-true, ltb-false}
-use lib.Dec.{eqb, ltb}
-use lib.ListN.{length, take, drop, get_or, set, replicate, get_or-replicate, get_or-eq_default, length-replicate}
-use lib.Seq.{get_or-set_same, get_or-set_other}
+use Rattle.std.proofs.Common.{Option, None as Nothing, Some, ℕ, zero, suc, ◌+◌, ◌*◌, ◌-◌, ◌≤◌, ◌<◌, arith, ◌≡◌, refl, sym, ap, ◌∙◌, subst, Bool, true, false, List, [], ◌∷◌, eqb-true, eq-eqb, ne_eqb, ltb-true, ltb-false, eqb, ltb, length, take, drop, get_or, set, replicate, get_or-set_same, get_or-set_other}
+use borrow.Author.Tests.{eqb-false}
+use lib.ListN.{get_or-replicate, get_or-eq_default, length-replicate}
 use Rattle.pcode.specs.Var.{pick}
 use Rattle.pcode.specs.Block.{has_id}
 use Rattle.pcode.specs.declared.var.VarId.{VarId}
 use Rattle.vars.specs.Vars.{row_of}
 use Rattle.vars.proofs.Rows.{ways, row_apart}
 use Rattle.const_eval.specs.declared.place.Place.{Place}
-use Rattle.const_eval.specs.declared.map.Found.{Found}
-use Rattle.const_eval.specs.declared.map.Found.TheVariants.{Nothing, At}
 use Rattle.const_eval.specs.Known.{part_of, splice, fresh_from, fresh_row}
 use Rattle.const_eval.specs.State as Known
 use Rattle.const_eval.specs.State.{map_gives, entered, freshened, noted_by, noted, flag_of, keep_flags, forgotten, cleared}
@@ -130,9 +122,9 @@ module _ (ids : List VarId) where
   pub noted_valid : (p : Place) (K : Known.State) (s : State) → Valid ids K s → Valid ids (noted p K) s
   noted_valid p K s v = go (map_gives (part_of p K.store) K)
     where
-      go : (f : Found) → Valid ids (noted_by f p K) s
+      go : (f : Option Place) → Valid ids (noted_by f p K) s
       go Nothing = entered_valid p K s v
-      go (At q) = v
+      go (Some q) = v
 
   -- a row's new expressions are its variable's bits
   module _ (K : Known.State) (s : State) (bytes : Bytewise s) (small : K.tally.next < 4294967296) (v : Valid ids K s)

@@ -1,20 +1,11 @@
 -- Widening: the bytes directly above an output that are known to be zero are zero.
-use Prim.Native.Nat.{ℕ, zero, suc, ◌+◌, ◌*◌, ◌-◌, ◌/◌, ◌%◌, ◌^◌, ◌≤◌, ◌<◌}
-use native.Mathlib.Omega.{arith}
-use native.Mathlib.Nat.{mod-eq_of_lt}
-use mathlib.Core.Path.{◌≡◌, refl, sym, ap, ap₂, ◌∙◌, subst}
-use mathlib.Core.Bool.{Bool, true, false}
-use mathlib.Core.List.{List}
-use borrow.Author.Tests.{eqb-true}
-use lib.Dec.{eqb}
-use lib.Pow.{shr-shr, mod-pow-add}
-use lib.ListN.{take, drop}
-use lib.Seq.{drop-drop}
+use Rattle.std.proofs.Common.{Option, None, Some, ℕ, zero, suc, ◌+◌, ◌*◌, ◌-◌, ◌/◌, ◌%◌, ◌^◌, ◌≤◌, ◌<◌, arith, mod-eq_of_lt, ◌≡◌, refl, sym, ap, ap₂, ◌∙◌, subst, Bool, true, false, List, eqb-true, eqb, shr-shr, take, drop, drop-drop}
+use lib.Pow.{mod-pow-add}
 use Rattle.pcode.specs.Var.{pick}
 use Rattle.pcode.specs.Block.{has_id}
 use Rattle.pcode.specs.declared.var.VarId.{VarId}
 use Rattle.pcode.specs.declared.var.VarNode.{VarNode}
-use Rattle.pcode.specs.declared.var.Output.TheVariants as Out
+use Rattle.std.specs.declared.option.Option.TheVariants as Out
 use Rattle.vars.specs.Vars.{row_of, held_ids}
 use Rattle.vars.specs.declared.Vars.{Vars}
 use Rattle.bit_vec.specs.Lists.{bits}
@@ -62,21 +53,22 @@ module _ (vars : Vars) (K : Known.State) (s : State) (bytes : Bytewise s) (v : V
       trailing_part v.values a 8 xs (low 8 (s o.id j)) (omega (arith, q)) (subst (λ (ys : List ℕ). Holds v.values ys (low 8 (s o.id j))) (sym e) b) in
       sym (mod-eq_of_lt (bytes o.id j)) ∙ sym (num_low 8 (s o.id j)) ∙ r
 
-  pub widened_wide : (widened_of K.store (place_of vars o) ≡ 0 → ⊥) → Wide s o (widened_of K.store (place_of vars o))
+  pub widened_wide : (n : ℕ) → widened_of K.store (place_of vars o) ≡ Some n → Wide s o n
   unfolding widened_of
-  widened_wide h = go (eqb o.offset 0) (eqb (zeros_above K.store (place_of vars o)) 0) (is_power (o.size + zeros_above K.store (place_of vars o))) refl (widened_le K.store (place_of vars o)) h
+  widened_wide n h = go (eqb o.offset 0) (eqb (zeros_above K.store (place_of vars o)) 0) (is_power (o.size + zeros_above K.store (place_of vars o))) refl h
     where
       wide : ℕ
       wide = o.size + zeros_above K.store (place_of vars o)
 
-      go : (a b c : Bool) → eqb o.offset 0 ≡ a → pick a (pick b 0 (pick c (o.size + zeros_above K.store (place_of vars o)) 0)) 0 ≤ 16
-          → (pick a (pick b 0 (pick c (o.size + zeros_above K.store (place_of vars o)) 0)) 0 ≡ 0 → ⊥) → Wide s o (pick a (pick b 0 (pick c (o.size + zeros_above K.store (place_of vars o)) 0)) 0)
-      go false b c e l n = absurd (n refl)
-      go true true c e l n = absurd (n refl)
-      go true false false e l n = absurd (n refl)
-      go true false true e l n =
+      go : (a b c : Bool) → eqb o.offset 0 ≡ a → ◌≡◌ {A = Option ℕ} (pick a (pick b None (pick c (Some wide) None)) None) (Some n) → Wide s o n
+      go false b c e q = absurd (cc)
+      go true true c e q = absurd (cc)
+      go true false false e q = absurd (cc)
+      go true false true e q =
           let z : o.offset ≡ 0 = eqb-true o.offset 0 e in
-          record { bottom = z; wider = omega arith; inside = l; zeros = λ j p q. zero_byte j p (omega (arith, l, q)) z q }
+          let k : wide ≡ n = cc in
+          let l : n ≤ 16 = widened_le K.store (place_of vars o) n h in
+          record { bottom = z; wider = omega (arith, k); inside = l; zeros = λ j p q. zero_byte j p (omega (arith, l, q)) z (omega (arith, k, q)) }
 
 -- the number of bytes that are another number's
 num_of : (t : State) (id : VarId) (o n y : ℕ) → ((i : ℕ) → i < n → t id (o + i) ≡ y / 2 ^ (8 * i) % 256) → num_by t id o n ≡ y % 2 ^ (8 * n)
@@ -98,14 +90,14 @@ num_of t id o (suc n) y h =
     shape i j = omega arith
 
 -- reading what was written
-pub num_put : (s : State) (v : VarNode) (x : ℕ) → v.offset + v.size ≤ 16 → num_by (put_by s (Out.Var v) x) v.id v.offset v.size ≡ x % 2 ^ (8 * v.size)
+pub num_put : (s : State) (v : VarNode) (x : ℕ) → v.offset + v.size ≤ 16 → num_by (put_by s (Out.Some v) x) v.id v.offset v.size ≡ x % 2 ^ (8 * v.size)
 num_put s v x f =
-    num_of (put_by s (Out.Var v) x) v.id v.offset v.size x
+    num_of (put_by s (Out.Some v) x) v.id v.offset v.size x
     (λ i l. put_byte s v x (v.offset + i) f (omega arith) (omega arith) ∙ ap (λ (m : ℕ). x / 2 ^ (8 * m) % 256) (let q : v.offset + i - v.offset ≡ i = omega arith in q))
 
 -- a write at a widened size, or at its own: of a number with the same low bytes
 pub put_widened : (s : State) (o : VarNode) (x y w : ℕ) (id : VarId) (k : ℕ) → o.offset + o.size ≤ 16 → y < 2 ^ (8 * o.size) → y ≡ x % 2 ^ (8 * o.size)
-    → Wide (put_by s (Out.Var o) x) o w → put_by s (Out.Var o) x id k ≡ put_by s (lowest o w) y id k
+    → Wide (put_by s (Out.Some o) x) o w → put_by s (Out.Some o) x id k ≡ put_by s (lowest o w) y id k
 put_widened s o x y w id k f l e d =
     put_same s o x y id k f (sym e ∙ sym (mod-eq_of_lt l))
     ∙ put_wide s o w y id k d.bottom d.wider d.inside l

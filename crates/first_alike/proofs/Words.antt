@@ -1,14 +1,6 @@
 -- The bits of a variable's bytes and of the number that they are.
-use Prim.Native.Nat.{ℕ, zero, suc, ◌+◌, ◌*◌, ◌-◌, ◌/◌, ◌%◌, ◌^◌, ◌≤◌, ◌<◌}
-use native.Mathlib.Omega.{arith}
-use native.Mathlib.Nat.{div-one}
-use mathlib.Core.Path.{◌≡◌, refl, sym, ap, ap₂, ◌∙◌}
-use mathlib.Core.Bool.{Bool}
-use mathlib.Core.List.{List, ◌∷◌, ◌++◌}
-use lib.Dec.{eqb, lit<}
-use lib.Pow.{pow-add, shr-shr}
-use lib.ListN.{length, take, drop}
-use lib.Seq.{take_at, drop-append-add}
+use Rattle.std.proofs.Common.{ℕ, zero, suc, ◌+◌, ◌*◌, ◌-◌, ◌/◌, ◌%◌, ◌^◌, ◌≤◌, ◌<◌, arith, div-one, ◌≡◌, refl, sym, ap, ap₂, ◌∙◌, Bool, List, ◌∷◌, ◌++◌, eqb, lit<, pow-add, shr-shr, length, take, drop, take_at}
+use lib.Seq.{drop-append-add}
 use Rattle.pcode.specs.declared.var.VarId.{VarId}
 use Rattle.sound.specs.Sound.{num, low}
 use Rattle.sound.proofs.Numbers.{num_low, low_mod, length_low}

@@ -1,16 +1,10 @@
 -- A written output: new codes that hold a number keep knowledge valid for the state in which that number was written.
-use Prim.Native.Nat.{ℕ, ◌+◌, ◌*◌, ◌-◌, ◌/◌, ◌^◌, ◌≤◌, ◌<◌}
-use native.Mathlib.Omega.{arith}
-use mathlib.Core.Path.{◌≡◌, sym, ap, ◌∙◌, subst}
-use mathlib.Core.Bool.{Bool, true}
-use mathlib.Core.List.{List}
-use borrow.Author.Tests.{eqb-true, eqb-false, ltb-true, ltb-false, leb-true, leb-false}
-use lib.Dec.{eqb, leb, ltb}
-use lib.ListN.{length, take, drop}
+use Rattle.std.proofs.Common.{ℕ, ◌+◌, ◌*◌, ◌-◌, ◌/◌, ◌^◌, ◌≤◌, ◌<◌, arith, ◌≡◌, sym, ap, ◌∙◌, subst, Bool, true, List, eqb-true, ltb-true, ltb-false, leb-true, leb-false, eqb, leb, ltb, length, take, drop}
+use borrow.Author.Tests.{eqb-false}
 use Rattle.pcode.specs.Block.{has_id}
 use Rattle.pcode.specs.declared.var.VarId.{VarId}
 use Rattle.pcode.specs.declared.var.VarNode.{VarNode}
-use Rattle.pcode.specs.declared.var.Output.TheVariants as Out
+use Rattle.std.specs.declared.option.Option.TheVariants as Out
 use Rattle.vars.specs.Vars.{row_of}
 use Rattle.vars.proofs.Rows.{ways, row_apart}
 use Rattle.const_eval.specs.Known.{splice}
@@ -33,7 +27,7 @@ module _ (ids : List VarId) (τ : Valuation) (used store : List ℕ) (s : State)
   at = 128 * row + 8 * o.offset
 
   abbrev after : State
-  after = put_by s (Out.Var o) x
+  after = put_by s (Out.Some o) x
 
   in_store : at + length new ≤ length store
   in_store = omega (arith, long, fit, room)

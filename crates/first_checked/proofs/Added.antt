@@ -1,10 +1,6 @@
 -- Each statement gives at most two, all fine over the block's ids and at most one new id a statement.
-use Prim.Native.Nat.{ℕ, suc, ◌+◌, ◌*◌, ◌≤◌}
-use mathlib.Core.Path.{◌≡◌, refl, sym, ◌∙◌, ap}
-use mathlib.Core.Bool.{true, false≢true}
-use mathlib.Core.List.{List, [], ◌∷◌, ◌++◌}
-use native.Mathlib.Omega.{arith}
-use lib.ListN.{length, length-append}
+use Rattle.std.proofs.Common.{Option, None as Nothing, Some, ℕ, suc, ◌+◌, ◌*◌, ◌≤◌, ◌≡◌, refl, sym, ◌∙◌, ap, true, List, [], ◌∷◌, ◌++◌, arith, length, length-append}
+use mathlib.Core.Bool.{false≢true}
 use Rattle.pcode.specs.Var.{same_id}
 use Rattle.pcode.specs.Block.{held, has_id, first_limits}
 use Rattle.pcode.specs.declared.var.VarId.{VarId}
@@ -16,8 +12,6 @@ use Rattle.vars.specs.Vars.{vars_of, held_ids}
 use Rattle.vars.specs.declared.Vars.{Vars}
 use Rattle.vars.proofs.Rows.{ways}
 use Rattle.checks.specs.Statements.{good_size, good_parts, met_needs, good_sizes}
-use Rattle.widen.specs.declared.widen.Skip.{Skip}
-use Rattle.widen.specs.declared.widen.Skip.TheVariants as Skips
 use Rattle.const_step.specs.Labels.{branch_of, label_stmt, end_of}
 use Rattle.const_prop.specs.Pass.{stmts_of}
 use Rattle.alike.proofs.Fewer.{Within as Among, distinct_vars, fewer}
@@ -74,48 +68,48 @@ module _ (ids : List VarId) (n : ℕ) (ss out : List Stmt) (a : Added ids n out)
         fine = all_join (x ∷ l) ss out (all_within (x ∷ ids) (x ∷ l) ss (among_cons x ids l (among_right a.new ids)) f) (all_within l (x ∷ l) out (within_more x l) a.fine);
       }
 
-gives_added : (ids : List VarId) (n : ℕ) {st : Stmt} {ss : List Stmt} {k : Skip} (out : List Stmt) → Added ids n out → Gives ids st ss k → Added ids (suc n) (ss ++ out)
+gives_added : (ids : List VarId) (n : ℕ) {st : Stmt} {ss : List Stmt} {k : Option PcodeLabel} (out : List Stmt) → Added ids n out → Gives ids st ss k → Added ids (suc n) (ss ++ out)
 gives_added ids n out a drops = none_new ids n [] out a tt
 gives_added ids n out a (skips l e) = none_new ids n [] out a tt
 gives_added ids n out a (copies s k e f) = none_new ids n (s ∷ []) out a (f, tt)
 gives_added ids n out a (stays s e f) = none_new ids n (s ∷ []) out a (f, tt)
 gives_added ids n out a (widens x s z k e g f h) = one_new ids n (s ∷ (z ∷ [])) out a x (f, (h, tt))
 
-step_added : (ids : List VarId) (n : ℕ) {made rest ss : List Stmt} {st : Stmt} {k j : Skip} (out : List Stmt) → Added ids n out → Step ids made rest st k ss j → Added ids (suc n) (ss ++ out)
+step_added : (ids : List VarId) (n : ℕ) {made rest ss : List Stmt} {st : Stmt} {k j : Option PcodeLabel} (out : List Stmt) → Added ids n out → Step ids made rest st k ss j → Added ids (suc n) (ss ++ out)
 step_added ids n out a (turns m g) = gives_added ids n out a g
 step_added ids n out a (passes m) = none_new ids n [] out a tt
 step_added ids n out a (lost e r) = none_new ids n [] out a tt
 step_added ids n out a (kept {l = l} e) = none_new ids n (label_stmt l ∷ []) out a (label_fine ids l, tt)
 step_added ids n out a (meets {t = t} {l = l} e q) = none_new ids n (branch_of t ∷ (label_stmt l ∷ [])) out a (branch_fine ids t, (label_fine ids l, tt))
 
-end_fine : (ids : List VarId) (k : Skip) → AllFine ids (stmts_of (end_of k))
-end_fine ids Skips.None = tt
-end_fine ids (Skips.To t) = (branch_fine ids t, tt)
+end_fine : (ids : List VarId) (k : Option PcodeLabel) → AllFine ids (stmts_of (end_of k))
+end_fine ids Nothing = tt
+end_fine ids (Some t) = (branch_fine ids t, tt)
 
-pub walks_added : (ids : List VarId) {made rest out : List Stmt} {k : Skip} → Walks ids made k rest out → Added ids (length rest) out
+pub walks_added : (ids : List VarId) {made rest out : List Stmt} {k : Option PcodeLabel} → Walks ids made k rest out → Added ids (length rest) out
 walks_added ids (ends {k = k}) = record { new = []; few = omega arith; fine = end_fine ids k }
 walks_added ids (goes {rest = rest} {out = out} s w) = step_added ids (length rest) out (walks_added ids w) s
 
 -- at most two statements for each, and one at the end
-gives_short : (ids : List VarId) {st : Stmt} {ss : List Stmt} {k : Skip} → Gives ids st ss k → length ss ≤ 2
+gives_short : (ids : List VarId) {st : Stmt} {ss : List Stmt} {k : Option PcodeLabel} → Gives ids st ss k → length ss ≤ 2
 gives_short ids drops = omega arith
 gives_short ids (skips l e) = omega arith
 gives_short ids (copies s k e f) = omega arith
 gives_short ids (stays s e f) = omega arith
 gives_short ids (widens x s z k e g f h) = omega arith
 
-step_short : (ids : List VarId) {made rest ss : List Stmt} {st : Stmt} {k j : Skip} → Step ids made rest st k ss j → length ss ≤ 2
+step_short : (ids : List VarId) {made rest ss : List Stmt} {st : Stmt} {k j : Option PcodeLabel} → Step ids made rest st k ss j → length ss ≤ 2
 step_short ids (turns m g) = gives_short ids g
 step_short ids (passes m) = omega arith
 step_short ids (lost e r) = omega arith
 step_short ids (kept e) = omega arith
 step_short ids (meets e q) = omega arith
 
-end_short : (k : Skip) → length (stmts_of (end_of k)) ≤ 1
-end_short Skips.None = omega arith
-end_short (Skips.To t) = omega arith
+end_short : (k : Option PcodeLabel) → length (stmts_of (end_of k)) ≤ 1
+end_short Nothing = omega arith
+end_short (Some t) = omega arith
 
-pub walks_short : (ids : List VarId) {made rest out : List Stmt} {k : Skip} → Walks ids made k rest out → length out ≤ 2 * length rest + 1
+pub walks_short : (ids : List VarId) {made rest out : List Stmt} {k : Option PcodeLabel} → Walks ids made k rest out → length out ≤ 2 * length rest + 1
 walks_short ids (ends {k = k}) = let h = end_short k in omega (arith, h)
 walks_short ids (goes {rest = rest} {ss = ss} {out = out} s w) =
     let a = step_short ids s in

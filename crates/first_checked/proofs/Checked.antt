@@ -1,10 +1,5 @@
 -- What the first pass gives of a checked block passes the checks with the second pass's limits.
-use Prim.Native.Nat.{ℕ, ◌+◌}
-use mathlib.Core.Path.{◌≡◌, refl, subst}
-use mathlib.Core.Bool.{true}
-use mathlib.Core.List.{List, [], ◌∷◌, ◌++◌}
-use lib.ListN.{length}
-use borrow.Author.Tests.{le-ltb}
+use Rattle.std.proofs.Common.{Option, None as Nothing, Some, Ok, ℕ, ◌+◌, ◌≡◌, refl, subst, true, List, [], ◌∷◌, ◌++◌, length, le-ltb}
 use Rattle.pcode.specs.Block.{held, second_limits}
 use Rattle.pcode.specs.declared.var.VarId.{VarId}
 use Rattle.pcode.specs.declared.var.PcodeLabel.{PcodeLabel as Label}
@@ -14,14 +9,11 @@ use Rattle.pcode.specs.declared.block.Block.{Block}
 use Rattle.pcode.specs.declared.block.Marks.{Marks}
 use Rattle.vars.specs.Vars.{held_ids}
 use Rattle.vars.specs.declared.Vars.{Vars}
-use Rattle.text.specs.declared.answer.Answer.TheVariants.{Ok}
 use Rattle.checks.specs.Statements.{stmt_check, checks_from}
 use Rattle.checks.specs.Labels.{good_label, labels_from}
 use Rattle.checks.specs.Checks.{check_of}
-use Rattle.widen.specs.declared.widen.Skip.{Skip}
-use Rattle.widen.specs.declared.widen.Skip.TheVariants as Skips
 use Rattle.const_step.specs.Labels.{branch_of, end_of}
-use Rattle.const_prop.specs.Pass.{stmts_of, gives}
+use Rattle.const_prop.specs.Pass.{stmts_of, block_with}
 use Rattle.alike.proofs.Kept.{AllPass, labels_ok, vars_ok, held_block}
 use Rattle.first_checked.specs.Results.{Given}
 use Rattle.first_checked.proofs.Ids.{AllFine}
@@ -31,7 +23,7 @@ use Rattle.first_checked.proofs.Targets.{Has, Aims, has_left, has_none, aims_rig
 use Rattle.first_checked.proofs.Labels.{Found, up, down, Leads, Keeps, last}
 
 -- 3, 4 and 5
-checks_fine : (ids : List VarId) (i : ℕ) (ss : List Stmt) → AllFine ids ss → checks_from i ss ≡ Ok
+checks_fine : (ids : List VarId) (i : ℕ) (ss : List Stmt) → AllFine ids ss → checks_from i ss ≡ Ok tt
 unfolding checks_from stmt_check
 checks_fine ids i [] f = refl
 checks_fine ids i (s ∷ ss) f = let g = f.0.good in rw (g.parts, g.needs, g.sizes) (checks_fine ids (i + 1) ss f.1)
@@ -64,37 +56,37 @@ all_good block above (s ∷ ss) h f =
     (use_good block above s.op h.0 (λ t e. f t (aims_here s ss t e)), all_good block (above ++ (s ∷ [])) ss h.1 (λ t a. f t (aims_right (s ∷ []) ss t a)))
 
 -- nothing is given yet
-pub keeps_start : (block : List Stmt) → Keeps block [] [] Skips.None block
+pub keeps_start : (block : List Stmt) → Keeps block [] [] Nothing block
 keeps_start block =
     record { whole = refl; sub = λ t p. p; back = λ t a p. p; ahead = λ t a. absurd (aims_none t a); leads = tt; single = tt }
 
-end_once : (a : List Stmt) (k : Skip) → AllPass once a (stmts_of (end_of k))
-end_once a Skips.None = tt
-end_once a (Skips.To t) = (refl, tt)
+end_once : (a : List Stmt) (k : Option Label) → AllPass once a (stmts_of (end_of k))
+end_once a Nothing = tt
+end_once a (Some t) = (refl, tt)
 
 stood : (made : List Stmt) (t : Label) → Found made [] t → Has made t
 stood made t (up p) = p
 stood made t (down p) = absurd (has_none t p)
 
-end_aims : (made : List Stmt) (k : Skip) → Leads made [] k → (t : Label) → Aims (stmts_of (end_of k)) t → Has made t
-end_aims made Skips.None l t a = absurd (aims_none t a)
-end_aims made (Skips.To x) l t a = subst (Has made) (branch_same x t (aims_one (branch_of x) t a)) (stood made x l)
+end_aims : (made : List Stmt) (k : Option Label) → Leads made [] k → (t : Label) → Aims (stmts_of (end_of k)) t → Has made t
+end_aims made Nothing l t a = absurd (aims_none t a)
+end_aims made (Some x) l t a = subst (Has made) (branch_same x t (aims_one (branch_of x) t a)) (stood made x l)
 
 -- at the end the labels are good
-end_labels : (block above made : List Stmt) (k : Skip) → Keeps block above made k [] → AllPass (good_label (made ++ stmts_of (end_of k))) [] (made ++ stmts_of (end_of k))
+end_labels : (block above made : List Stmt) (k : Option Label) → Keeps block above made k [] → AllPass (good_label (made ++ stmts_of (end_of k))) [] (made ++ stmts_of (end_of k))
 end_labels block above made k h =
     let e = stmts_of (end_of k) in
     all_good (made ++ e) [] (made ++ e) (pass_append once [] made e h.single (end_once made k))
     (λ t a. has_left made e t (aims_split made e t a (λ q. stood made t (h.ahead t q)) (end_aims made k h.leads t)))
 
 module _ {b : Block} {vars : Vars} {m : Marks} {l : List Stmt} (g : Given b vars m l) where
-  result_labels : labels_from l 0 l ≡ Ok
+  result_labels : labels_from l 0 l ≡ Ok tt
   result_labels =
       let r = last (held b) (held_ids vars) (λ a x k y. Unit {0}) (λ a x y ss st k j h p u s. tt) (first_walk g) [] (keeps_start (held b)) (block_labels g) tt in
       labels_ok l [] l refl (subst (λ (x : List Stmt). AllPass (good_label x) [] x) r.is (end_labels (held b) r.above r.made r.skip r.keeps))
 
   -- the result passes the checks
-  pub result_checked : check_of second_limits (gives l).block ≡ Ok
+  pub result_checked : check_of second_limits (block_with l) ≡ Ok tt
   unfolding check_of
   result_checked =
       let a = result_added g in

@@ -1,36 +1,26 @@
 -- A statement that no check refuses, over some ids, and a replaced operand: it is there as the old one was, and has its size.
-use Prim.Native.Nat.{ℕ, suc, ◌+◌, ◌*◌, ◌≤◌, ◌<◌}
-use mathlib.Core.Path.{◌≡◌, refl, sym, ◌∙◌, ap, subst}
-use mathlib.Core.Bool.{Bool, true, false, false≢true}
-use mathlib.Core.List.{List, ◌∷◌}
-use native.Mathlib.Omega.{arith}
-use lib.Dec.{eqb, leb}
+use Rattle.std.proofs.Common.{Option, None as Nothing, Some, ℕ, suc, ◌+◌, ◌*◌, ◌≤◌, ◌<◌, ◌≡◌, refl, sym, ◌∙◌, ap, subst, Bool, true, false, List, ◌∷◌, arith, eqb, leb, length, length-take, get_or-take, leb-true, le-leb, ne_eqb}
+use mathlib.Core.Bool.{false≢true}
 use lib.IntN.{pos}
-use lib.ListN.{length, length-take}
-use lib.Seq.{get_or-take}
-use borrow.Author.Tests.{leb-true, le-leb, eqb-false, ne_eqb}
+use borrow.Author.Tests.{eqb-false}
 use Rattle.pcode.specs.Var.{pick, same_id, zero_id, size_of, as_operand}
 use Rattle.pcode.specs.Block.{has_id, stmt_of}
 use Rattle.pcode.specs.declared.var.VarId.{VarId}
 use Rattle.pcode.specs.declared.var.VarNode.{VarNode}
 use Rattle.pcode.specs.declared.var.Operand.{Operand}
 use Rattle.pcode.specs.declared.var.Operand.TheVariants.{None, Const, Var}
-use Rattle.pcode.specs.declared.var.Output.{Output}
-use Rattle.pcode.specs.declared.var.Output.TheVariants as Out
+use Rattle.pcode.specs.Var.{Output}
+use Rattle.std.specs.declared.option.Option.TheVariants as Out
 use Rattle.pcode.specs.declared.block.Stmt.{Stmt}
 use Rattle.vars.specs.Vars.{held_ids}
 use Rattle.vars.specs.declared.Vars.{Vars}
 use Rattle.vars.proofs.Rows.{row_below, has_at}
 use Rattle.checks.specs.Statements.{good_size, good_node, good_operand, there, good_parts, met_needs, good_sizes}
 use Rattle.checks.proofs.Passing.{Good}
-use Rattle.bit_vec.specs.declared.known.Constant.{Constant}
-use Rattle.bit_vec.specs.declared.known.Constant.TheVariants.{Known, Open}
 use Rattle.bit_vec.specs.Lists.{bits, codes}
 use Rattle.bit_vec.specs.Moves.{digits}
 use Rattle.bit_vec.specs.Known.{const_of}
 use Rattle.const_eval.specs.declared.place.Place.{Place}
-use Rattle.const_eval.specs.declared.map.Found.{Found}
-use Rattle.const_eval.specs.declared.map.Found.TheVariants.{Nothing, At}
 use Rattle.const_eval.specs.Known.{part_of, Within}
 use Rattle.const_eval.specs.State.{State, entries_of, map_gives}
 use Rattle.const_eval.proofs.Parts.{part_length}
@@ -174,7 +164,7 @@ module _ (vars : Vars) (no_zero : NoZero (held_ids vars)) where
 
   pub output_in : (o : Output) → good_operand (as_operand o) ≡ true → In (held_ids vars) (as_operand o) → InOutput N vars o
   output_in Out.None g i = tt
-  output_in (Out.Var o) g i = operand_in (Var o) g i
+  output_in (Out.Some o) g i = operand_in (Var o) g i
 
   pub fine_sits : (st : Stmt) → Fine (held_ids vars) st → Sits N vars st
   fine_sits st f =
@@ -202,7 +192,7 @@ module _ (vars : Vars) (no_zero : NoZero (held_ids vars)) where
 
   -- what an operand that is there becomes, by its bits
   module _ (k : ℕ) (a : Operand) (s : State) (key : List ℕ) (h : Sure N k s) (l : length key ≡ 8 * size_of a) (t : there a ≡ true) (g : good_operand a ≡ true) (i : In (held_ids vars) a) where
-    given_like : (p : Place) → map_gives key s ≡ At p → Like (held_ids vars) a (Var (node_at vars p))
+    given_like : (p : Place) → map_gives key s ≡ Some p → Like (held_ids vars) a (Var (node_at vars p))
     given_like p e =
         let w = lookup_within (128 * N) s.store (entries_of s) key p h.rows e in
         let u = lookup_within (length s.store) s.store (entries_of s) key p h.able.good.inside e in
@@ -216,10 +206,10 @@ module _ (vars : Vars) (no_zero : NoZero (held_ids vars)) where
           named = x;
         }
 
-    by_like : (c : Constant) (f : Found) → map_gives key s ≡ f → Like (held_ids vars) a (becomes_by vars c f a)
-    by_like (Known j) f e = record { present = sym t; size = refl; good = there_size a t g; named = tt }
-    by_like Open Nothing e = record { present = refl; size = refl; good = g; named = i }
-    by_like Open (At p) e = given_like p e
+    by_like : (c : Option ℕ) (f : Option Place) → map_gives key s ≡ f → Like (held_ids vars) a (becomes_by vars c f a)
+    by_like (Some j) f e = record { present = sym t; size = refl; good = there_size a t g; named = tt }
+    by_like Nothing Nothing e = record { present = refl; size = refl; good = g; named = i }
+    by_like Nothing (Some p) e = given_like p e
 
   pub becomes_like : (k : ℕ) (a : Operand) (s : State) → Sure N k s → good_operand a ≡ true → In (held_ids vars) a → Like (held_ids vars) a (becomes vars s a)
   becomes_like k None s h g i = record { present = refl; size = refl; good = refl; named = tt }

@@ -1,26 +1,17 @@
 -- Throughout the walk every entry of the value map names a row of the table.
-use Prim.Native.Nat.{ℕ, suc, ◌+◌, ◌*◌, ◌≤◌}
-use mathlib.Core.Path.{◌≡◌, refl, sym, subst}
-use mathlib.Core.Bool.{Bool, true, false}
-use mathlib.Core.List.{List}
-use native.Mathlib.Omega.{arith}
-use lib.Dec.{eqb}
-use lib.ListN.{length, get_or}
+use Rattle.std.proofs.Common.{Option, None as Nothing, Some, Result, Ok, Err, ℕ, suc, ◌+◌, ◌*◌, ◌≤◌, ◌≡◌, refl, sym, subst, Bool, true, false, List, arith, eqb, length, get_or}
 use Rattle.pcode.specs.Var.{pick}
 use Rattle.pcode.specs.declared.op.Op.{Op}
 use Rattle.pcode.specs.declared.var.Operand.{Operand}
 use Rattle.pcode.specs.declared.var.Operand.TheVariants.{None, Const, Var}
-use Rattle.pcode.specs.declared.var.Output.{Output}
-use Rattle.pcode.specs.declared.var.Output.TheVariants as Out
+use Rattle.pcode.specs.Var.{Output}
+use Rattle.std.specs.declared.option.Option.TheVariants as Out
 use Rattle.pcode.specs.declared.block.Stmt.{Stmt}
 use Rattle.vars.specs.declared.Vars.{Vars}
 use Rattle.eval.specs.Held.{coded}
 use Rattle.eval.specs.Eval as Eval
-use Rattle.eval.specs.declared.Evaluated.{Evaluated}
-use Rattle.eval.specs.declared.Evaluated.TheVariants.{Done, RotateTooFar, BadSizes}
+use Rattle.eval.specs.declared.EvalError.{EvalError}
 use Rattle.const_eval.specs.declared.place.Place.{Place}
-use Rattle.const_eval.specs.declared.map.Found.{Found}
-use Rattle.const_eval.specs.declared.map.Found.TheVariants.{Nothing, At}
 use Rattle.const_eval.specs.Known.{part_of, Fit, Within}
 use Rattle.const_eval.specs.Map.{Entry, Inside}
 use Rattle.const_eval.specs.State.{State, entries_of, map_gives, entered, freshened, first_use, noted_by, noted, forgotten, cleared, Room, Able}
@@ -61,9 +52,9 @@ module _ (n : ℕ) where
   noted_rows : (p : Place) (s : State) → Room p s → Fit n p → RowsIn s → RowsIn (noted p s)
   noted_rows p s r f h = go (map_gives (part_of p s.store) s)
     where
-      go : (x : Found) → RowsIn (noted_by x p s)
+      go : (x : Option Place) → RowsIn (noted_by x p s)
       go Nothing = entered_rows p s (part_length p s.store (good_within p s r.good r.part_in)) r.more f h
-      go (At q) = h
+      go (Some q) = h
 
   -- there is room for k more entries, the first n rows are in the store, and every entry names one of them
   pub record Sure (k : ℕ) (s : State) : Type 0 where
@@ -126,10 +117,9 @@ module _ (n : ℕ) where
       v : List ℕ
       v = named s.tally.next cells
 
-      go : (e : Evaluated) → RowsIn (settled_by e cells p xa xb s).state
-      go Done = noted_rows p (written p v s) (written_room p v s a g (value_length op p xa xb s.store s.tally.next (sure_within (suc k) p s h f))) f h.rows
-      go RotateTooFar = h.rows
-      go BadSizes = h.rows
+      go : (e : Result (Unit {0}) EvalError) → RowsIn (settled_by e cells p xa xb s).state
+      go (Ok u) = noted_rows p (written p v s) (written_room p v s a g (value_length op p xa xb s.store s.tally.next (sure_within (suc k) p s h f))) f h.rows
+      go (Err x) = h.rows
 
   pub cleared_sure : (k : ℕ) (s : State) → Sure k s → Sure k (cleared s)
   cleared_sure k s h =
@@ -170,13 +160,13 @@ module _ (n : ℕ) where
 
       plain_sure : (o : Output) → InOutput n vars o → Sure k (plain_of vars xa xb o st s).state
       plain_sure Out.None i = less
-      plain_sure (Out.Var o) i =
+      plain_sure (Out.Some o) i =
           let t = first_use (place_of vars o) s in
           settled_sure k st.op (place_of vars o) (xa t.store) (xb t.store) t (first_sure (suc k) (place_of vars o) s h i) i
 
       hook_sure : (o : Output) → InOutput n vars o → Sure k (hook_of vars o st s).state
       hook_sure Out.None i = cleared_sure k s less
-      hook_sure (Out.Var o) i = first_sure k (place_of vars o) (cleared s) (cleared_sure (suc k) s (sure_less (suc k) (suc (suc k)) s (omega arith) h)) i
+      hook_sure (Out.Some o) i = first_sure k (place_of vars o) (cleared s) (cleared_sure (suc k) s (sure_less (suc k) (suc (suc k)) s (omega arith) h)) i
 
       pub turned_sure : (t : Turn) → InOutput n vars st.output → Sure k (turned vars xa xb t st s).state
       turned_sure Plain i = plain_sure st.output i

@@ -1,8 +1,6 @@
 -- What holds of each id that statements name holds of their variables; and a block's statements name its variables.
-use Prim.Native.Nat.{ℕ, ◌+◌}
-use mathlib.Core.Path.{◌≡◌, sym, ◌∙◌, ap, subst}
-use mathlib.Core.Bool.{Bool, true, false, ◌||◌, false≢true}
-use mathlib.Core.List.{List, [], ◌∷◌, ◌++◌}
+use Rattle.std.proofs.Common.{ℕ, ◌+◌, ◌≡◌, sym, ◌∙◌, ap, subst, Bool, true, false, ◌||◌, List, [], ◌∷◌, ◌++◌, Ok}
+use mathlib.Core.Bool.{false≢true}
 use Rattle.pcode.specs.Var.{same_id, zero_id, as_operand}
 use Rattle.pcode.specs.Block.{has_id}
 use Rattle.pcode.specs.declared.var.VarId.{VarId}
@@ -12,7 +10,6 @@ use Rattle.pcode.specs.declared.block.Stmt.{Stmt}
 use Rattle.pcode.proofs.Ids.{same_id_true, same_id_refl}
 use Rattle.vars.specs.Vars.{ids_in, ids_of, join_id, join_ids, vars_from}
 use Rattle.vars.proofs.Rows.{ways, has_here, join_held, join_new, joins_have, vars_keep}
-use Rattle.text.specs.declared.answer.Answer.TheVariants.{Ok}
 use Rattle.checks.specs.Statements.{good_operand, stmt_check, checks_from}
 use Rattle.checks.proofs.Passing.{both_ok, good}
 use Rattle.alike.proofs.Bools.{or_right}
@@ -107,7 +104,7 @@ in_ids (Const v n) = tt
 in_ids (Var v) = has_here v.id [] v.id (same_id_refl v.id)
 
 -- checked statements are fine over ids that hold their variables
-pub checked_fine : (ids l : List VarId) (i : ℕ) (ss : List Stmt) → Among (vars_from l ss) ids → checks_from i ss ≡ Ok → AllFine ids ss
+pub checked_fine : (ids l : List VarId) (i : ℕ) (ss : List Stmt) → Among (vars_from l ss) ids → checks_from i ss ≡ Ok tt → AllFine ids ss
 unfolding vars_from checks_from
 checked_fine ids l i [] w e = tt
 checked_fine ids l i (s ∷ ss) w e =

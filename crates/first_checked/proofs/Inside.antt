@@ -1,8 +1,6 @@
 -- Where every branch of the block stays inside one instruction, so does every branch of what the first pass gives.
-use Prim.Native.Nat.{◌+◌}
-use mathlib.Core.Path.{◌≡◌, refl, sym, ◌∙◌, ap, subst}
-use mathlib.Core.Bool.{Bool, true, false, not, ◌&&◌, true≢false, false≢true}
-use mathlib.Core.List.{List, [], ◌∷◌, ◌++◌}
+use Rattle.std.proofs.Common.{Option, None as Nothing, Some, ◌+◌, ◌≡◌, refl, sym, ◌∙◌, ap, subst, Bool, true, false, not, ◌&&◌, true≢false, List, [], ◌∷◌, ◌++◌}
+use mathlib.Core.Bool.{false≢true}
 use Rattle.pcode.specs.Var.{pick, same_label}
 use Rattle.pcode.specs.Block.{held}
 use Rattle.pcode.specs.declared.var.VarId.{VarId}
@@ -18,8 +16,6 @@ use Rattle.vars.specs.declared.Vars.{Vars}
 use Rattle.checks.specs.Labels.{is_label}
 use Rattle.live_tables.specs.Rows.{edge_of, is_marker}
 use Rattle.step.specs.Steps.{act_of}
-use Rattle.widen.specs.declared.widen.Skip.{Skip}
-use Rattle.widen.specs.declared.widen.Skip.TheVariants as Skips
 use Rattle.const_step.specs.Labels.{has_target, targets_of, branch_of, label_stmt, arrives_of, end_of}
 use Rattle.const_prop.specs.Pass.{stmts_of}
 use Rattle.alike.specs.Premises.{reaches, lands, in_one_instruction}
@@ -68,7 +64,7 @@ label_same : (op : Op) (l t : Label) → op ≡ Op.PcodeLabel l → is_label op 
 label_same op l t e h = same_label_true l t (ap (λ (x : Op). is_label x t) (sym e) ∙ h)
 
 -- what a statement gives has no marker unless it is one
-gives_unmarked : {ids : List VarId} {st : Stmt} {ss : List Stmt} {k : Skip} → Gives ids st ss k → Unmarked st.op → NoMark ss
+gives_unmarked : {ids : List VarId} {st : Stmt} {ss : List Stmt} {k : Option Label} → Gives ids st ss k → Unmarked st.op → NoMark ss
 gives_unmarked drops n = tt
 gives_unmarked (skips l e) n = tt
 gives_unmarked (copies s k e f) n = (ap (λ (x : Op). is_marker (edge_of x)) e, tt)
@@ -77,7 +73,7 @@ gives_unmarked (widens x s z k e g f i) n = (ap (λ (y : Op). is_marker (edge_of
 
 -- a label that the result so far branches to is reached in what the rest gives
 module _ (made rest : List Stmt) where
-  step_reach : (ids : List VarId) (ss out : List Stmt) (st : Stmt) (k j : Skip) (t : Label) → (Reaches t rest → Aims (made ++ ss) t → Reaches t out) → Step ids made rest st k ss j
+  step_reach : (ids : List VarId) (ss out : List Stmt) (st : Stmt) (k j : Option Label) (t : Label) → (Reaches t rest → Aims (made ++ ss) t → Reaches t out) → Step ids made rest st k ss j
       → Reaches t (st ∷ rest) → Aims made t → Reaches t (ss ++ out)
   step_reach ids ss out st k j t ih (turns n g) r a =
       reach_step t st rest r (λ p. absurd (true≢false (sym p ∙ n t))) (λ u p. reach_over t ss out (gives_unmarked g u) (ih p (aims_left made ss t a)))
@@ -95,7 +91,7 @@ module _ (made rest : List Stmt) where
       (reach_step t st rest r (λ p. reach_here t (label_stmt l) out (ap (same_label l) (sym (label_same st.op l t e p)) ∙ same_label_refl l))
       (λ u p. reach_next t (label_stmt l) out refl (ih p (aims_left made ss t a))))
 
-walks_reach : (ids : List VarId) (t : Label) {made rest out : List Stmt} {k : Skip} → Walks ids made k rest out → Reaches t rest → Aims made t → Reaches t out
+walks_reach : (ids : List VarId) (t : Label) {made rest out : List Stmt} {k : Option Label} → Walks ids made k rest out → Reaches t rest → Aims made t → Reaches t out
 walks_reach ids t ends r a = absurd (reach_none t r)
 walks_reach ids t (goes {made = made} {rest = rest} {ss = ss} {out = out} {st = st} {k = k} {j = j} s w) r a =
     step_reach made rest ids ss out st k j t (λ p q. walks_reach ids t w p q) s r a
@@ -145,15 +141,15 @@ computes : (s : Stmt) (k : OneOp) (out : List Stmt) → s.op ≡ Op.One k → la
 computes s k out e = ap (λ (x : Op). lands (act_of x) out) e
 
 -- a skip's label stands below with no marker between
-abbrev Leads : Skip → List Stmt → Type 0
-Leads Skips.None rest = Unit {0}
-Leads (Skips.To t) rest = Reaches t rest
+abbrev Leads : Option Label → List Stmt → Type 0
+Leads Nothing rest = Unit {0}
+Leads (Some t) rest = Reaches t rest
 
 module _ (made rest : List Stmt) (st : Stmt) (out : List Stmt) where
   abbrev Lands : List Stmt → Type 0
   Lands ss = (t : Label) → Reaches t rest → Aims (made ++ ss) t → Reaches t out
 
-  gives_inside : {ids : List VarId} {ss : List Stmt} {j : Skip} → Gives ids st ss j → Lands ss → (Leads j rest → OneInstruction out) → lands (act_of st.op) rest ≡ true → OneInstruction (ss ++ out)
+  gives_inside : {ids : List VarId} {ss : List Stmt} {j : Option Label} → Gives ids st ss j → Lands ss → (Leads j rest → OneInstruction out) → lands (act_of st.op) rest ≡ true → OneInstruction (ss ++ out)
   gives_inside drops reach ih h = ih tt
   gives_inside (skips l e) reach ih h = ih (sym (ap (λ (x : Op). lands (act_of x) rest) e) ∙ h)
   gives_inside (copies s k e f) reach ih h = one_more s out (computes s k out e) (ih tt)
@@ -172,15 +168,15 @@ module _ (made rest : List Stmt) (st : Stmt) (out : List Stmt) where
   past_label t l e q r =
       reach_step t st rest r (λ p. absurd (true≢false (sym (same_label_refl l) ∙ ap (λ (x : Label). same_label x l) (label_same st.op l t e p) ∙ q))) (λ u p. p)
 
-  arrives : (k : Skip) (l : Label) → st.op ≡ Op.PcodeLabel l → Leads k (st ∷ rest) → Leads (arrives_of k l) rest
-  arrives Skips.None l e r = tt
-  arrives (Skips.To t) l e r = go (same_label t l) refl
+  arrives : (k : Option Label) (l : Label) → st.op ≡ Op.PcodeLabel l → Leads k (st ∷ rest) → Leads (arrives_of k l) rest
+  arrives Nothing l e r = tt
+  arrives (Some t) l e r = go (same_label t l) refl
     where
-      go : (b : Bool) → same_label t l ≡ b → Leads (pick b Skips.None (Skips.To t)) rest
+      go : (b : Bool) → same_label t l ≡ b → Leads (pick b Nothing (Some t)) rest
       go true z = tt
       go false z = past_label t l e z r
 
-  step_inside : (ids : List VarId) (ss : List Stmt) (k j : Skip) → Step ids made rest st k ss j → Lands ss → (OneInstruction rest → Leads j rest → OneInstruction out)
+  step_inside : (ids : List VarId) (ss : List Stmt) (k j : Option Label) → Step ids made rest st k ss j → Lands ss → (OneInstruction rest → Leads j rest → OneInstruction out)
       → OneInstruction (st ∷ rest) → Leads k (st ∷ rest) → OneInstruction (ss ++ out)
   step_inside ids ss k j (turns n g) reach ih o d = gives_inside g reach (ih (one_rest st rest o)) (one_first st rest o)
   step_inside ids ss k j (passes {t = t} n) reach ih o d =
@@ -192,11 +188,11 @@ module _ (made rest : List Stmt) (st : Stmt) (out : List Stmt) where
       (reach_next x (label_stmt l) out refl (reach x (past_label x l e q d) (aims_right made (branch_of x ∷ (label_stmt l ∷ [])) x (aims_here (branch_of x) (label_stmt l ∷ []) x refl))))
       (one_more (label_stmt l) out refl (ih (one_rest st rest o) tt))
 
-end_inside : (k : Skip) → Leads k [] → OneInstruction (stmts_of (end_of k))
-end_inside Skips.None d = one_none
-end_inside (Skips.To t) d = absurd (reach_none t d)
+end_inside : (k : Option Label) → Leads k [] → OneInstruction (stmts_of (end_of k))
+end_inside Nothing d = one_none
+end_inside (Some t) d = absurd (reach_none t d)
 
-walks_inside : (ids : List VarId) {made rest out : List Stmt} {k : Skip} → Walks ids made k rest out → OneInstruction rest → Leads k rest → OneInstruction out
+walks_inside : (ids : List VarId) {made rest out : List Stmt} {k : Option Label} → Walks ids made k rest out → OneInstruction rest → Leads k rest → OneInstruction out
 walks_inside ids (ends {k = k}) o d = end_inside k d
 walks_inside ids (goes {made = made} {rest = rest} {ss = ss} {out = out} {st = st} {k = k} {j = j} s w) o d =
     step_inside made rest st out ids ss k j s (λ t r a. walks_reach ids t w r a) (λ p q. walks_inside ids w p q) o d

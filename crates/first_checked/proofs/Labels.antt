@@ -1,8 +1,5 @@
 -- Every kept label stands once, and a branch of the result finds its label in the result: what holds throughout the walk.
-use Prim.Native.Nat.{◌+◌}
-use mathlib.Core.Path.{◌≡◌, refl, sym, ◌∙◌, ap, subst}
-use mathlib.Core.Bool.{Bool, true, false, not, true≢false}
-use mathlib.Core.List.{List, [], ◌∷◌, ◌++◌, append_assoc, append-nil}
+use Rattle.std.proofs.Common.{Option, None as Nothing, Some, ◌+◌, ◌≡◌, refl, sym, ◌∙◌, ap, subst, Bool, true, false, not, true≢false, List, [], ◌∷◌, ◌++◌, append_assoc, append-nil}
 use Rattle.pcode.specs.Var.{pick, same_label}
 use Rattle.pcode.specs.declared.var.VarId.{VarId}
 use Rattle.pcode.specs.declared.var.PcodeLabel.{PcodeLabel as Label}
@@ -11,8 +8,6 @@ use Rattle.pcode.specs.declared.block.Stmt.{Stmt}
 use Rattle.pcode.proofs.Ids.{same_label_refl}
 use Rattle.vars.proofs.Rows.{ways}
 use Rattle.checks.specs.Labels.{has_label, good_label}
-use Rattle.widen.specs.declared.widen.Skip.{Skip}
-use Rattle.widen.specs.declared.widen.Skip.TheVariants as Skips
 use Rattle.const_step.specs.Labels.{has_target, targets_of, reached_by, branch_of, label_stmt, arrives_of, end_of}
 use Rattle.const_prop.specs.Pass.{stmts_of}
 use Rattle.alike.proofs.Bools.{or_none_left, or_none_right, not_true}
@@ -26,13 +21,13 @@ pub data Found (made rest : List Stmt) (t : Label) : Type 0 where
   up : Has made t → Found made rest t
   down : Has rest t → Found made rest t
 
-abbrev pub Leads : List Stmt → List Stmt → Skip → Type 0
-Leads made rest Skips.None = Unit {0}
-Leads made rest (Skips.To t) = Found made rest t
+abbrev pub Leads : List Stmt → List Stmt → Option Label → Type 0
+Leads made rest Nothing = Unit {0}
+Leads made rest (Some t) = Found made rest t
 
 module _ (block : List Stmt) where
   -- what holds after the statements above, before the rest
-  pub record Keeps (above made : List Stmt) (k : Skip) (rest : List Stmt) : Type 0 where
+  pub record Keeps (above made : List Stmt) (k : Option Label) (rest : List Stmt) : Type 0 where
     pub whole : above ++ rest ≡ block
     pub sub : (t : Label) → Has made t → Has above t
     pub back : (t : Label) → Aims rest t → Has above t → Has made t
@@ -40,7 +35,7 @@ module _ (block : List Stmt) where
     pub leads : Leads made rest k
     pub single : AllPass once [] made
 
-  module _ (above made rest : List Stmt) (st : Stmt) (k : Skip) (h : Keeps above made k (st ∷ rest)) where
+  module _ (above made rest : List Stmt) (st : Stmt) (k : Option Label) (h : Keeps above made k (st ∷ rest)) where
     next_whole : (above ++ (st ∷ [])) ++ rest ≡ block
     next_whole = append_assoc above (st ∷ []) rest ∙ h.whole
 
@@ -51,14 +46,14 @@ module _ (block : List Stmt) where
         has_split above (st ∷ rest) t q (λ p. up (h.back t (aims_here st rest t e) p)) (λ p. down p)
 
     -- the statements given have the statement's label
-    module _ (ss : List Stmt) (j : Skip) (lab : (t : Label) → Has (st ∷ []) t → Has ss t) where
+    module _ (ss : List Stmt) (j : Option Label) (lab : (t : Label) → Has (st ∷ []) t → Has ss t) where
       shift : (t : Label) → Found made (st ∷ rest) t → Found (made ++ ss) rest t
       shift t (up p) = up (has_left made ss t p)
       shift t (down p) = has_split (st ∷ []) rest t p (λ q. up (has_right made ss t (lab t q))) (λ q. down q)
 
-      lead_on : (j : Skip) → Leads made (st ∷ rest) j → Leads (made ++ ss) rest j
-      lead_on Skips.None l = tt
-      lead_on (Skips.To t) l = shift t l
+      lead_on : (j : Option Label) → Leads made (st ∷ rest) j → Leads (made ++ ss) rest j
+      lead_on Nothing l = tt
+      lead_on (Some t) l = shift t l
 
       grown : ((t : Label) → Has ss t → Has (st ∷ []) t) → ((t : Label) → Aims ss t → Found made (st ∷ rest) t) → Leads made (st ∷ rest) j → AllPass once made ss
           → Keeps (above ++ (st ∷ [])) (made ++ ss) j rest
@@ -73,7 +68,7 @@ module _ (block : List Stmt) where
           }
 
     module _ (good : good_label block above st.op ≡ true) where
-      gives_leads : {ids : List VarId} {ss : List Stmt} {j : Skip} → Gives ids st ss j → Leads made (st ∷ rest) j
+      gives_leads : {ids : List VarId} {ss : List Stmt} {j : Option Label} → Gives ids st ss j → Leads made (st ∷ rest) j
       gives_leads drops = tt
       gives_leads (skips l e) = aimed l good e
       gives_leads (copies s c e f) = tt
@@ -104,11 +99,11 @@ module _ (block : List Stmt) where
           past t n (up p) = up p
           past t n (down p) = has_split (st ∷ []) rest t p (λ q. absurd (n q)) (λ q. down q)
 
-          arrives : (k : Skip) → Leads made (st ∷ rest) k → Leads made rest (arrives_of k l)
-          arrives Skips.None q = tt
-          arrives (Skips.To t) q = go (same_label t l) refl
+          arrives : (k : Option Label) → Leads made (st ∷ rest) k → Leads made rest (arrives_of k l)
+          arrives Nothing q = tt
+          arrives (Some t) q = go (same_label t l) refl
             where
-              go : (b : Bool) → same_label t l ≡ b → Leads made rest (pick b Skips.None (Skips.To t))
+              go : (b : Bool) → same_label t l ≡ b → Leads made rest (pick b Nothing (Some t))
               go true z = tt
               go false z = past t (λ p. true≢false (sym (same_label_refl l) ∙ ap (λ (x : Label). same_label x l) (label_is st l t e p) ∙ z)) q
 
@@ -137,9 +132,9 @@ module _ (block : List Stmt) where
               (λ p. absurd (has_split made pre l p (λ q. true≢false (sym q ∙ not_made)) (bare l)))
               (λ p. ap not p)
 
-          kept_keeps : Keeps (above ++ (st ∷ [])) (made ++ (pre ++ (label_stmt l ∷ []))) Skips.None rest
+          kept_keeps : Keeps (above ++ (st ∷ [])) (made ++ (pre ++ (label_stmt l ∷ []))) Nothing rest
           kept_keeps =
-              grown (pre ++ (label_stmt l ∷ [])) Skips.None same_label_lem new_label
+              grown (pre ++ (label_stmt l ∷ [])) Nothing same_label_lem new_label
               (λ t a. aims_split pre (label_stmt l ∷ []) t a (aim t) (λ q. absurd (label_no_branch l t (aims_one (label_stmt l) t q))))
               tt
               (pass_append once made pre (label_stmt l ∷ []) one (fresh, tt))
@@ -147,7 +142,7 @@ module _ (block : List Stmt) where
   branch_alone : (made rest : List Stmt) (x t : Label) → Found made rest x → Aims (branch_of x ∷ []) t → Found made rest t
   branch_alone made rest x t f a = subst (Found made rest) (branch_same x t (aims_one (branch_of x) t a)) f
 
-  pub step_keeps : (ids : List VarId) (above made rest ss : List Stmt) (st : Stmt) (k j : Skip) → Keeps above made k (st ∷ rest) → good_label block above st.op ≡ true
+  pub step_keeps : (ids : List VarId) (above made rest ss : List Stmt) (st : Stmt) (k j : Option Label) → Keeps above made k (st ∷ rest) → good_label block above st.op ≡ true
       → Step ids made rest st k ss j → Keeps (above ++ (st ∷ [])) (made ++ ss) j rest
   step_keeps ids above made rest ss st k j h g (turns n v) =
       grown above made rest st k h ss j (λ t q. absurd (no_label st t n q)) (λ t q. absurd (gives_labels v n t q))
@@ -164,19 +159,19 @@ module _ (block : List Stmt) where
       kept_keeps above made rest st k h g l e (branch_of x ∷ []) (λ t p. no_label (branch_of x) t (λ u. refl) p) (λ t a. branch_alone made (st ∷ rest) x t h.leads a) (refl, tt)
 
   -- the whole walk, with more that each step keeps
-  module _ (ids : List VarId) (More : List Stmt → List Stmt → Skip → List Stmt → Type 0)
-      (step : (above made rest ss : List Stmt) (st : Stmt) (k j : Skip) → Keeps above made k (st ∷ rest) → good_label block above st.op ≡ true → More above made k (st ∷ rest)
+  module _ (ids : List VarId) (More : List Stmt → List Stmt → Option Label → List Stmt → Type 0)
+      (step : (above made rest ss : List Stmt) (st : Stmt) (k j : Option Label) → Keeps above made k (st ∷ rest) → good_label block above st.op ≡ true → More above made k (st ∷ rest)
       → Step ids made rest st k ss j → More (above ++ (st ∷ [])) (made ++ ss) j rest) where
     -- after the last statement
     pub record Last (l : List Stmt) : Type 0 where
       pub above : List Stmt
       pub made : List Stmt
-      pub skip : Skip
+      pub skip : Option Label
       pub keeps : Keeps above made skip []
       pub more : More above made skip []
       pub is : made ++ stmts_of (end_of skip) ≡ l
 
-    pub last : {made rest out : List Stmt} {k : Skip} → Walks ids made k rest out → (above : List Stmt) → Keeps above made k rest → AllPass (good_label block) above rest → More above made k rest
+    pub last : {made rest out : List Stmt} {k : Option Label} → Walks ids made k rest out → (above : List Stmt) → Keeps above made k rest → AllPass (good_label block) above rest → More above made k rest
         → Last (made ++ out)
     last (ends {made = made} {k = k}) above h g m = record { above = above; made = made; skip = k; keeps = h; more = m; is = refl }
     last (goes {made = made} {rest = rest} {ss = ss} {out = out} {st = st} {k = k} {j = j} s w) above h g m =

@@ -1,11 +1,5 @@
 -- Where refusal 16 does not meet the block, it does not meet what the first pass gives: the same operations, and no branch upwards.
-use mathlib.Core.Path.{◌≡◌, refl, sym, ◌∙◌, ap, subst}
-use mathlib.Core.Bool.{Bool, true, false, not, true≢false}
-use mathlib.Core.List.{List, [], ◌∷◌, ◌++◌}
-use native.Mathlib.Omega.{arith}
-use lib.Dec.{ltb}
-use lib.ListN.{length}
-use borrow.Author.Tests.{ltb-false, le-ltb}
+use Rattle.std.proofs.Common.{Option, None as Nothing, Some, ◌≡◌, refl, sym, ◌∙◌, ap, subst, Bool, true, false, not, true≢false, List, [], ◌∷◌, ◌++◌, arith, ltb, length, ltb-false, le-ltb}
 use Rattle.pcode.specs.Var.{pick, same_label}
 use Rattle.pcode.specs.Block.{held}
 use Rattle.pcode.specs.declared.var.VarId.{VarId}
@@ -22,8 +16,6 @@ use Rattle.vars.proofs.Rows.{ways}
 use Rattle.checks.specs.Labels.{has_label, good_label}
 use Rattle.machine.specs.Class.{in_class, backward, outside, first_outside}
 use Rattle.machine.specs.declared.class.Class.{Class}
-use Rattle.widen.specs.declared.widen.Skip.{Skip}
-use Rattle.widen.specs.declared.widen.Skip.TheVariants as Skips
 use Rattle.const_step.specs.Labels.{arrives_of, end_of}
 use Rattle.const_prop.specs.Pass.{stmts_of}
 use Rattle.alike.proofs.Bools.{not_true}
@@ -78,11 +70,11 @@ module _ (c : Class) where
   not_up a op t e h p = true≢false (sym p ∙ not_true (has_label a t) (sym (ap (runs a) e) ∙ h))
 
   -- a skip's label does not stand above
-  abbrev Onward : List Stmt → Skip → Type 0
-  Onward above Skips.None = Unit {0}
-  Onward above (Skips.To t) = Has above t → ⊥
+  abbrev Onward : List Stmt → Option Label → Type 0
+  Onward above Nothing = Unit {0}
+  Onward above (Some t) = Has above t → ⊥
 
-  record More (above made : List Stmt) (k : Skip) (rest : List Stmt) : Type 0 where
+  record More (above made : List Stmt) (k : Option Label) (rest : List Stmt) : Type 0 where
     pub block : AllPass runs above rest
     pub result : AllPass runs [] made
     pub onward : Onward above k
@@ -97,30 +89,30 @@ module _ (c : Class) where
     same_runs : (s : Stmt) → s.op ≡ st.op → runs made s.op ≡ true
     same_runs s e = ap (runs made) e ∙ runs_sub above made w st.op h
 
-    gives_runs : {ids : List VarId} {ss : List Stmt} {k : Skip} → Gives ids st ss k → AllPass runs made ss
+    gives_runs : {ids : List VarId} {ss : List Stmt} {k : Option Label} → Gives ids st ss k → AllPass runs made ss
     gives_runs drops = tt
     gives_runs (skips l e) = tt
     gives_runs (copies s k e f) = (one_runs made s k e, tt)
     gives_runs (stays s e f) = (same_runs s e, tt)
     gives_runs (widens x s z k e g f i) = (same_runs s e, (one_runs (made ++ (s ∷ [])) z k g, tt))
 
-    gives_onward : {ids : List VarId} {ss : List Stmt} {k : Skip} → Gives ids st ss k → NotLabel st.op → Onward (above ++ (st ∷ [])) k
+    gives_onward : {ids : List VarId} {ss : List Stmt} {k : Option Label} → Gives ids st ss k → NotLabel st.op → Onward (above ++ (st ∷ [])) k
     gives_onward drops n = tt
     gives_onward (skips l e) n = not_at above st l (not_up above st.op l e h) (no_label st l n)
     gives_onward (copies s k e f) n = tt
     gives_onward (stays s e f) n = tt
     gives_onward (widens x s z k e g f i) n = tt
 
-  onward_past : (above : List Stmt) (st : Stmt) (l : Label) → st.op ≡ Op.PcodeLabel l → (k : Skip) → Onward above k → Onward (above ++ (st ∷ [])) (arrives_of k l)
-  onward_past above st l e Skips.None o = tt
-  onward_past above st l e (Skips.To t) o = go (same_label t l) refl
+  onward_past : (above : List Stmt) (st : Stmt) (l : Label) → st.op ≡ Op.PcodeLabel l → (k : Option Label) → Onward above k → Onward (above ++ (st ∷ [])) (arrives_of k l)
+  onward_past above st l e Nothing o = tt
+  onward_past above st l e (Some t) o = go (same_label t l) refl
     where
-      go : (b : Bool) → same_label t l ≡ b → Onward (above ++ (st ∷ [])) (pick b Skips.None (Skips.To t))
+      go : (b : Bool) → same_label t l ≡ b → Onward (above ++ (st ∷ [])) (pick b Nothing (Some t))
       go true z = tt
       go false z = not_at above st t o (λ p. true≢false (sym (same_label_refl l) ∙ ap (λ (x : Label). same_label x l) (label_is st l t e p) ∙ z))
 
   module _ (block : List Stmt) (ids : List VarId) where
-    step : (above made rest ss : List Stmt) (st : Stmt) (k j : Skip) → Keeps block above made k (st ∷ rest) → good_label block above st.op ≡ true → More above made k (st ∷ rest)
+    step : (above made rest ss : List Stmt) (st : Stmt) (k j : Option Label) → Keeps block above made k (st ∷ rest) → good_label block above st.op ≡ true → More above made k (st ∷ rest)
         → Step ids made rest st k ss j → More (above ++ (st ∷ [])) (made ++ ss) j rest
     step above made rest ss st k j h g m (turns n v) =
         record { block = m.block.1; result = pass_append runs [] made ss m.result (gives_runs above made st h.sub m.block.0 v); onward = gives_onward above made st h.sub m.block.0 v n }
@@ -133,9 +125,9 @@ module _ (c : Class) where
     step above made rest ss st k j h g m (meets {t = t} e q) =
         record { block = m.block.1; result = pass_append runs [] made ss m.result (up_not made t (λ p. m.onward (h.sub t p)), (refl, tt)); onward = tt }
 
-  end_runs : (above made : List Stmt) (k : Skip) → ((t : Label) → Has made t → Has above t) → Onward above k → AllPass runs made (stmts_of (end_of k))
-  end_runs above made Skips.None w o = tt
-  end_runs above made (Skips.To t) w o = (up_not made t (λ p. o (w t p)), tt)
+  end_runs : (above made : List Stmt) (k : Option Label) → ((t : Label) → Has made t → Has above t) → Onward above k → AllPass runs made (stmts_of (end_of k))
+  end_runs above made Nothing w o = tt
+  end_runs above made (Some t) w o = (up_not made t (λ p. o (w t p)), tt)
 
   module _ {b : Block} {vars : Vars} {m : Marks} {l : List Stmt} (g : Given b vars m l) (class : ltb (first_outside c (held b) 0 (held b)) (length (held b)) ≡ false) where
     all_run : AllPass runs [] l

@@ -1,11 +1,6 @@
 -- Labels that stand among statements, labels that statements branch to, and both in what a statement gives.
-use Prim.Native.Nat.{ℕ, ◌+◌}
-use mathlib.Core.Path.{◌≡◌, refl, sym, ◌∙◌, ap, subst}
-use mathlib.Core.Bool.{Bool, true, false, not, ◌||◌, true≢false, false≢true}
-use mathlib.Core.List.{List, [], ◌∷◌, ◌++◌, append_assoc, append-nil}
-use native.Mathlib.Omega.{arith}
-use lib.Dec.{eqb}
-use borrow.Author.Tests.{eqb-true, eq-eqb}
+use Rattle.std.proofs.Common.{Option, ℕ, ◌+◌, ◌≡◌, refl, sym, ◌∙◌, ap, subst, Bool, true, false, not, ◌||◌, true≢false, List, [], ◌∷◌, ◌++◌, append_assoc, append-nil, arith, eqb, eqb-true, eq-eqb}
+use mathlib.Core.Bool.{false≢true}
 use Rattle.pcode.specs.declared.var.VarId.{VarId}
 use Rattle.pcode.specs.declared.var.PcodeLabel.{PcodeLabel as Label}
 use Rattle.pcode.specs.declared.op.OneOp.{OneOp}
@@ -20,7 +15,6 @@ use Rattle.checks.specs.Labels.{label_of, stands, is_label, has_label}
 use Rattle.widen.specs.Turn.{turn_of}
 use Rattle.widen.specs.declared.turn.Turn.{Turn}
 use Rattle.widen.specs.declared.turn.Turn.TheVariants as Turns
-use Rattle.widen.specs.declared.widen.Skip.{Skip}
 use Rattle.const_step.specs.Labels.{target_by, target_of, has_target, targets_of}
 use Rattle.alike.proofs.Bools.{or_left, or_right}
 use Rattle.alike.proofs.Kept.{AllPass, has_append, has_one}
@@ -151,21 +145,21 @@ label_no_branch l t e =
     omega (arith, z)
 
 module _ {ids : List VarId} {st : Stmt} where
-  pub gives_labels : {ss : List Stmt} {k : Skip} → Gives ids st ss k → NotLabel st.op → (t : Label) → Has ss t → ⊥
+  pub gives_labels : {ss : List Stmt} {k : Option Label} → Gives ids st ss k → NotLabel st.op → (t : Label) → Has ss t → ⊥
   gives_labels drops n t h = has_none t h
   gives_labels (skips l e) n t h = has_none t h
   gives_labels (copies s k e f) n t h = no_label s t (one_no_label s k e) h
   gives_labels (stays s e f) n t h = no_label s t (same_no_label s st e n) h
   gives_labels (widens x s z k e g f i) n t h = has_split (s ∷ []) (z ∷ []) t h (no_label s t (same_no_label s st e n)) (no_label z t (one_no_label z k g))
 
-  pub gives_once : {ss : List Stmt} {k : Skip} → Gives ids st ss k → NotLabel st.op → (a : List Stmt) → AllPass once a ss
+  pub gives_once : {ss : List Stmt} {k : Option Label} → Gives ids st ss k → NotLabel st.op → (a : List Stmt) → AllPass once a ss
   gives_once drops n a = tt
   gives_once (skips l e) n a = tt
   gives_once (copies s k e f) n a = (not_label_once a s.op (one_no_label s k e), tt)
   gives_once (stays s e f) n a = (not_label_once a s.op (same_no_label s st e n), tt)
   gives_once (widens x s z k e g f i) n a = (not_label_once a s.op (same_no_label s st e n), (not_label_once (a ++ (s ∷ [])) z.op (one_no_label z k g), tt))
 
-  pub gives_branch : {ss : List Stmt} {k : Skip} → Gives ids st ss k → (t : Label) → Aims ss t → st.op ≡ Ops.PcodeBranch t
+  pub gives_branch : {ss : List Stmt} {k : Option Label} → Gives ids st ss k → (t : Label) → Aims ss t → st.op ≡ Ops.PcodeBranch t
   gives_branch drops t h = absurd (aims_none t h)
   gives_branch (skips l e) t h = absurd (aims_none t h)
   gives_branch (copies s k e f) t h = absurd (one_no_branch s k t e h)

@@ -1,18 +1,16 @@
 -- What any bytes are answered with: a treated block's text, or one refusal's line.
-use Rattle.std.specs.Prelude.{ℕ, ◌*◌, List, length}
+use Rattle.std.specs.Prelude.{ℕ, ◌*◌, List, length, Result, Ok, Err}
 use Rattle.pcode.specs.Block.{held}
 use Rattle.pcode.specs.declared.block.Block.{Block}
 use Rattle.pcode.specs.declared.block.Marks.{Marks}
 use Rattle.pcode.specs.declared.refusal.Refusal.{Refusal}
 use Rattle.text.specs.Reading.{read_room, read_of}
-use Rattle.text.specs.declared.answer.Answer.{Answer}
-use Rattle.text.specs.declared.answer.Answer.TheVariants.{Ok, Refused}
+use Rattle.text.specs.declared.answer.Read.{Read}
 use Rattle.print.specs.Rooms.{record_room, refusal_room}
 use Rattle.print.specs.Printing.{printed, refusal_text}
 use Rattle.optimizer.specs.First.{first_of}
 use Rattle.optimizer.specs.Second.{second_of}
 use Rattle.optimizer.specs.Both.{both_of}
-use Rattle.optimizer.specs.declared.second.Treated.{Treated}
 use Rattle.front.specs.declared.Pass.{Pass}
 use Rattle.front.specs.declared.Pass.TheVariants.{First, Second, Both}
 
@@ -27,19 +25,19 @@ abbrev pub input_room : Pass → ℕ
 input_room p = read_room (limit_of p)
 
 -- the passes that are asked for
-abbrev pub treat_of : Pass → Block → Marks → Treated
+abbrev pub treat_of : Pass → Block → Marks → Result Block Refusal
 treat_of First b m = first_of b m
 treat_of Second b m = second_of b m
 treat_of Both b m = both_of b m
 
 -- what was read, treated; or the reader's refusal
-abbrev pub end_by : Answer → Pass → Block → Marks → Treated
-end_by Ok p b m = treat_of p b m
-end_by (Refused why) p b m = record { answer = Refused why; block = b }
+abbrev pub end_by : Result Read Refusal → Pass → Result Block Refusal
+end_by (Ok r) p = treat_of p r.block r.marks
+end_by (Err why) p = Err why
 
 -- what becomes of a file of bytes
-unfoldable pub end_of : Pass → List ℕ → Treated
-end_of p bytes = end_by (read_of (limit_of p) bytes).answer p (read_of (limit_of p) bytes).block (read_of (limit_of p) bytes).marks
+unfoldable pub end_of : Pass → List ℕ → Result Block Refusal
+end_of p bytes = end_by (read_of (limit_of p) bytes) p
 
 -- a text, and the room that is asked for it
 pub record Told : Type 0 where
@@ -55,10 +53,10 @@ abbrev pub told_refusal : Refusal → Told
 told_refusal why = record { room = refusal_room; text = refusal_text why }
 
 -- a block, or a refusal
-abbrev pub told_by : Answer → Block → Told
-told_by Ok b = told_block b
-told_by (Refused why) b = told_refusal why
+abbrev pub told_by : Result Block Refusal → Told
+told_by (Ok b) = told_block b
+told_by (Err why) = told_refusal why
 
 -- a file of bytes, answered
 abbrev pub answer_of : Pass → List ℕ → Told
-answer_of p bytes = told_by (end_of p bytes).answer (end_of p bytes).block
+answer_of p bytes = told_by (end_of p bytes)

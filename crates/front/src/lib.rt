@@ -1,16 +1,17 @@
 // The front door: bytes in, a treated block's text or one refusal's line out.
 #![tactic(auto)]
 
-ghost use Rattle.std.specs.Prelude.{◌≡◌, ℕ};
+ghost use Rattle.std.specs.Prelude.{◌≡◌};
 ghost use Rattle.print.specs.Printing.{Print};
-ghost use Rattle.front.specs.Front.{limit_of, treat_of, end_of, told_by, answer_of};
+ghost use Rattle.front.specs.Front.{limit_of, treat_of, end_of, answer_of};
 
 use optimizer::both::both;
 use optimizer::first::const_prop;
-use optimizer::second::{Treated, dead_store_elimination};
+use optimizer::second::dead_store_elimination;
 use pcode::block::{Block, Marks};
-use print::print::Printed;
-use text::answer::Answer;
+use pcode::refusal::Refusal;
+use print::print::{print, refusal};
+use text::read::read;
 
 // Which passes a block goes through.
 #[derive(Clone, Copy)]
@@ -32,8 +33,8 @@ pub fn limit(pass: Pass) -> usize
 }
 
 // The passes that are asked for.
-pub fn treat_block(pass: Pass, block: Block, marks: Marks) -> Treated
-    ensures { result ≡ treat_of pass block marks }
+pub fn treat_block(pass: Pass, block: &Block, marks: Marks) -> Result<Block, Refusal>
+    ensures { result ≡ treat_of pass block.now marks }
 {
     match pass {
         Pass::First => const_prop(block, marks),
@@ -43,39 +44,20 @@ pub fn treat_block(pass: Pass, block: Block, marks: Marks) -> Treated
 }
 
 // What becomes of any bytes: a treated block, or one refusal of 01 with its place.
-pub fn treat_bytes(pass: Pass, input: &[u8]) -> Treated
+#[tactic(auto, unfolding(crate::specs::Front::end_of))]
+pub fn treat_bytes(pass: Pass, input: &[u8]) -> Result<Block, Refusal>
     ensures { result ≡ end_of pass input.now }
 {
-    let n = limit(pass);
-    let r = text::read::read(input, n);
-    let answer = r.answer;
-    let block = r.block;
-    let marks = r.marks;
-    match answer {
-        Answer::Ok => treat_block(pass, block, marks),
-        Answer::Refused(why) => Treated {
-            answer: Answer::Refused(why),
-            block,
-        },
-    }
-}
-
-// A block, or a refusal's line.
-fn show(answer: Answer, block: Block, out: &mut [u8]) -> Printed
-    ensures { Print (told_by answer block).room (told_by answer block).text out.old out.new result }
-{
-    match answer {
-        Answer::Ok => print::print::print(block, out),
-        Answer::Refused(why) => print::print::refusal(why, out),
-    }
+    let r = read(input, limit(pass))?;
+    treat_block(pass, &r.block, r.marks)
 }
 
 // Any bytes: the treated block, or one refusal of 01 with its place; nothing else is written.
-pub fn treat(pass: Pass, input: &[u8], out: &mut [u8]) -> Printed
+pub fn treat(pass: Pass, input: &[u8], out: &mut [u8]) -> Option<usize>
     ensures { Print (answer_of pass input.now).room (answer_of pass input.now).text out.old out.new result }
 {
-    let t = treat_bytes(pass, input);
-    let answer = t.answer;
-    let block = t.block;
-    show(answer, block, out)
+    match treat_bytes(pass, input) {
+        Ok(block) => print(&block, out),
+        Err(why) => refusal(why, out),
+    }
 }

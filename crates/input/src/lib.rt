@@ -14,6 +14,7 @@ pub fn fill<R: Read>(input: &mut R, list: &mut [u8]) -> io::Result<usize>
     ensures end { IfOk result (λ n. n < length list.new → IsAtEnd (R.remaining input.new)) }
 {
     let mut done = 0;
+    // A `while`, since each read gives as many bytes as it will: there is nothing to go over one by one.
     while done < list.len() {
         let n = input.read(&mut list[done..])?;
         if n == 0 {

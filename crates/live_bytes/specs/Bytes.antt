@@ -1,6 +1,5 @@
 -- Sets of a variable's 16 bytes as numbers: bit k says whether byte k is in.
 use Rattle.std.specs.Prelude.{ℕ, zero, suc, ◌+◌, ◌/◌, ◌%◌, ◌^◌, ◌≡◌, Bool, false, not, ◌&&◌, ◌||◌, eqb, leb, ltb}
-use Rattle.std.specs.Int.Bits.{bit_or, bit_xor}
 use Rattle.pcode.specs.Var.{pick}
 use Rattle.pcode.specs.declared.var.VarNode.{VarNode}
 
@@ -32,14 +31,6 @@ any_below (suc n) f = f n || any_below n f
 -- some byte of a variable's 16
 abbrev pub some_byte : (ℕ → Bool) → Bool
 some_byte f = any_below 16 f
-
--- the set with byte k
-unfoldable pub with_byte : ℕ → ℕ → ℕ
-with_byte set k = bit_or set (2 ^ k)
-
--- the set without byte k
-unfoldable pub without_byte : ℕ → ℕ → ℕ
-without_byte set k = bit_xor (bit_or set (2 ^ k)) (2 ^ k)
 
 -- a write of v is live: a byte of it was not written last, where the variable persists, or is read
 abbrev pub live_in : Bool → ℕ → ℕ → VarNode → Bool

@@ -1,3 +1,1 @@
-pub mod Filling
 pub mod Rowwise
-pub mod Stepping

@@ -1,15 +1,9 @@
 -- A checked statement of the run class meets what the evaluator asks.
-use Prim.Native.Nat.{ℕ, zero, suc, ◌+◌, ◌*◌, ◌^◌, ◌<◌, ◌≤◌}
-use native.Mathlib.Omega.{arith}
-use native.Mathlib.Nat.{mod-lt, mul-suc, pow-succ'}
-use mathlib.Core.Path.{◌≡◌, refl, sym, ap, ◌∙◌, subst}
-use mathlib.Core.Bool.{Bool, true, false, ◌&&◌, true≢false}
-use mathlib.Core.List.{List, []}
-use lib.Dec.{eqb, leb, lit<, eqb-suc-zero}
-use lib.ListN.{take, drop, get_or}
-use lib.Seq.{get_or-drop}
+use Rattle.std.proofs.Common.{ℕ, zero, suc, ◌+◌, ◌*◌, ◌^◌, ◌<◌, ◌≤◌, arith, mod-lt, mul-suc, ◌≡◌, refl, sym, ap, ◌∙◌, subst, Bool, true, false, true≢false, List, [], eqb, leb, lit<, take, drop, get_or, get_or-drop, eqb-true, leb-true}
+use native.Mathlib.Nat.{pow-succ'}
+use lib.Dec.{eqb-suc-zero}
 use lib.Pow.{pow-add, pow_pos}
-use borrow.Author.Tests.{eqb-true, leb-true}
+use Rattle.std.proofs.lemmas.Bool.{and_parts}
 use Rattle.pcode.specs.Var.{pick, zero_id, size_of}
 use Rattle.pcode.specs.Rules.{fits_rule, size_rule, sizes_one, meets, first_need, second_need}
 use Rattle.pcode.specs.declared.var.VarId.{VarId}
@@ -43,14 +37,6 @@ pub value_below : (ids : List VarId) (rows : List (List ℕ)) → Bytes rows →
 value_below ids rows b None = lit< tt
 value_below ids rows b (Const v n) = mod-lt v (pow_pos (8 * n))
 value_below ids rows b (Var v) = node_below rows b (row_of ids v.id) v
-
-pick_both : (x y : Bool) → pick x y false ≡ true → (x ≡ true) × (y ≡ true)
-pick_both true y e = (refl, e)
-pick_both false y e = absurd (true≢false (sym e))
-
-both_true : (x y : Bool) → (x && y) ≡ true → (x ≡ true) × (y ≡ true)
-both_true true y e = (refl, e)
-both_true false y e = absurd (true≢false (sym e))
 
 size_range : (n : ℕ) → good_size n ≡ true → (0 < n) × (n ≤ 16)
 unfolding good_size
@@ -120,7 +106,7 @@ applies (Opaque k) o a b x y p h k' = tt
 applies (Float k) o a b x y p h k' = tt
 applies (One k) o a b x y p h k' = (alone a x p.first p.first_need_lem h, grows k (size_of a) (size_of b) (size_of o) p.sizes, (let s = small o p.output in omega arith))
 applies (Two k) o a b x y p h k' =
-    let s = both_true (eqb (size_of a) (size_of o)) (eqb (size_of b) (size_of o)) p.sizes in
+    let s = and_parts (eqb (size_of a) (size_of o)) (eqb (size_of b) (size_of o)) p.sizes in
     both a b x y p.first p.first_need_lem (eqb-true (size_of b) (size_of o) s.1 ∙ sym (eqb-true (size_of a) (size_of o) s.0)) h k'
 applies (Divide k) o a b x y p h k' = tt
 applies (Shift k) o a b x y p h k' = alone a x p.first p.first_need_lem h

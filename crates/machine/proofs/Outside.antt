@@ -1,11 +1,5 @@
 -- A search for the first statement outside the class, from place i on.
-use Prim.Native.Nat.{ℕ, ◌+◌, ◌<◌, ◌≤◌}
-use native.Mathlib.Numerals.{add-one}
-use mathlib.Core.Path.{◌≡◌, sym, ap}
-use mathlib.Core.Bool.{true, false}
-use mathlib.Core.List.{List}
-use lib.ListN.{length, take, drop, get_or, drop_of_length-le}
-use lib.Seq.{drop-cons}
+use Rattle.std.proofs.Common.{ℕ, ◌+◌, ◌<◌, ◌≤◌, add-one, ◌≡◌, sym, ap, true, false, List, length, take, drop, get_or, drop_of_length-le, drop-cons}
 use Rattle.pcode.specs.declared.block.Stmt.{Stmt}
 use Rattle.machine.specs.Class.{outside, first_outside}
 use Rattle.machine.specs.declared.class.Class.{Class}

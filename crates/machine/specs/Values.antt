@@ -6,8 +6,8 @@ use Rattle.pcode.specs.declared.var.VarId.{VarId}
 use Rattle.pcode.specs.declared.var.VarNode.{VarNode}
 use Rattle.pcode.specs.declared.var.Operand.{Operand}
 use Rattle.pcode.specs.declared.var.Operand.TheVariants.{None, Const, Var}
-use Rattle.pcode.specs.declared.var.Output.{Output}
-use Rattle.pcode.specs.declared.var.Output.TheVariants as Out
+use Rattle.pcode.specs.Var.{Output}
+use Rattle.std.specs.declared.option.Option.TheVariants as Out
 use Rattle.pcode.specs.declared.block.Stmt.{Stmt}
 use Rattle.vars.specs.Vars.{row_of}
 use Rattle.meaning.specs.Meaning.{meaning}
@@ -23,7 +23,7 @@ value_in ids rows (Var v) = read_of rows (row_of ids v.id) v.offset v.size
 -- the rows after a number was written to an output
 abbrev pub written : List VarId → List (List ℕ) → Output → ℕ → List (List ℕ)
 written ids rows Out.None v = rows
-written ids rows (Out.Var o) v = write_of rows (row_of ids o.id) o.offset o.size v
+written ids rows (Out.Some o) v = write_of rows (row_of ids o.id) o.offset o.size v
 
 -- what an operation gives for a statement's operands; both are read before the output is written
 unfoldable pub result_in : List VarId → List (List ℕ) → Stmt → ℕ
@@ -49,7 +49,7 @@ HeldOperand ids (Var v) = Held ids v
 -- an output that the state holds
 abbrev pub HeldOutput : List VarId → Output → Type 0
 HeldOutput ids Out.None = Unit {0}
-HeldOutput ids (Out.Var v) = Held ids v
+HeldOutput ids (Out.Some v) = Held ids v
 
 -- what a statement without side effects asks before it is run
 pub record Ready (ids : List VarId) (rows : List (List ℕ)) (s : Stmt) : Type 0 where

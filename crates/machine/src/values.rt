@@ -1,5 +1,5 @@
 // What a statement reads and writes: values of operands, and the state after an output.
-ghost use Rattle.std.specs.Prelude.{◌≡◌, ℕ, ◌+◌, ◌*◌, ◌<◌, ◌≤◌};
+ghost use Rattle.std.specs.Prelude.{◌≡◌};
 ghost use Rattle.wide.specs.Value.{value_of};
 ghost use Rattle.pcode.specs.Var.{cut};
 ghost use Rattle.vars.specs.Vars.{held_ids, row_of};
@@ -7,33 +7,31 @@ ghost use Rattle.state.specs.Bytes.{read_of, write_of};
 ghost use Rattle.machine.specs.Values.{value_in, written, Held, HeldOperand, HeldOutput};
 
 use pcode::var::{Operand, Output, VarNode};
+use state::State;
 use vars::Vars;
 use wide::Wide;
 
+#[tactic(auto, unfolding(wide::specs::Value::value_of))]
 fn constant(value: u64, size: u8) -> Wide
     ensures { value_of result ≡ cut value size }
 {
-    let n = size as u64;
-    let whole = Wide { lo: value, hi: 0 };
-    whole.cut(8 * n)
+    Wide { lo: value, hi: 0 }.cut(8 * u64::from(size))
 }
 
 // The number in a part of a variable.
-fn read_node(vars: Vars, state: [[u8; 16]; 112], v: VarNode) -> Wide
-    requires { Held (held_ids vars) v }
-    ensures { value_of result ≡ read_of state (row_of (held_ids vars) v.id) v.offset v.size }
+fn read_node(vars: &Vars, state: State, v: VarNode) -> Wide
+    requires { Held (held_ids vars.now) v }
+    ensures { value_of result ≡ read_of state (row_of (held_ids vars.now) v.id) v.offset v.size }
 {
-    let id = v.id;
-    let row = vars.row(id);
-    let offset = v.offset as usize;
-    let size = v.size as usize;
-    state::read(state, row, offset, size)
+    let row = vars.row(v.id);
+    state::read(state, row, usize::from(v.offset), usize::from(v.size))
 }
 
 // An operand's value.
-pub fn value(vars: Vars, state: [[u8; 16]; 112], operand: Operand) -> Wide
-    requires { HeldOperand (held_ids vars) operand }
-    ensures { value_of result ≡ value_in (held_ids vars) state operand }
+#[tactic(auto, unfolding(wide::specs::Value::value_of))]
+pub fn value(vars: &Vars, state: State, operand: Operand) -> Wide
+    requires { HeldOperand (held_ids vars.now) operand }
+    ensures { value_of result ≡ value_in (held_ids vars.now) state operand }
 {
     match operand {
         Operand::None => Wide::ZERO,
@@ -42,24 +40,21 @@ pub fn value(vars: Vars, state: [[u8; 16]; 112], operand: Operand) -> Wide
     }
 }
 
-fn write_node(vars: Vars, state: [[u8; 16]; 112], v: VarNode, x: Wide) -> [[u8; 16]; 112]
-    requires { Held (held_ids vars) v }
-    ensures { result ≡ write_of state (row_of (held_ids vars) v.id) v.offset v.size (value_of x) }
+fn write_node(vars: &Vars, state: State, v: VarNode, x: Wide) -> State
+    requires { Held (held_ids vars.now) v }
+    ensures { result ≡ write_of state (row_of (held_ids vars.now) v.id) v.offset v.size (value_of x) }
 {
-    let id = v.id;
-    let row = vars.row(id);
-    let offset = v.offset as usize;
-    let size = v.size as usize;
-    state::write(state, row, offset, size, x)
+    let row = vars.row(v.id);
+    state::write(state, row, usize::from(v.offset), usize::from(v.size), x)
 }
 
 // The state after an output.
-pub fn write(vars: Vars, state: [[u8; 16]; 112], output: Output, x: Wide) -> [[u8; 16]; 112]
-    requires { HeldOutput (held_ids vars) output }
-    ensures { result ≡ written (held_ids vars) state output (value_of x) }
+pub fn write(vars: &Vars, state: State, output: Output, x: Wide) -> State
+    requires { HeldOutput (held_ids vars.now) output }
+    ensures { result ≡ written (held_ids vars.now) state output (value_of x) }
 {
     match output {
-        Output::None => state,
-        Output::Var(v) => write_node(vars, state, v, x),
+        None => state,
+        Some(v) => write_node(vars, state, v, x),
     }
 }

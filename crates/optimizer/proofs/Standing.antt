@@ -5,14 +5,14 @@ use mathlib.Core.Path.{◌≡◌, sym, ◌∙◌, ap, subst}
 use mathlib.Core.Bool.{true}
 use mathlib.Core.List.{List, []}
 use lib.ListN.{length, take, drop, get_or, length-append, length-drop}
-use lib.Seq.{get_or-take, length-take-le, take-append_seam}
+use lib.Seq.{take-append_seam}
 use Rattle.pcode.specs.Var.{as_operand}
 use Rattle.pcode.specs.Block.{held, has_id, blank_stmt, first_limits}
 use Rattle.pcode.specs.declared.var.VarId.{VarId}
 use Rattle.pcode.specs.declared.var.Operand.{Operand}
 use Rattle.pcode.specs.declared.var.Operand.TheVariants.{None, Const, Var}
-use Rattle.pcode.specs.declared.var.Output.{Output}
-use Rattle.pcode.specs.declared.var.Output.TheVariants as Out
+use Rattle.pcode.specs.Var.{Output}
+use Rattle.std.specs.declared.option.Option.TheVariants as Out
 use Rattle.pcode.specs.declared.block.Stmt.{Stmt}
 use Rattle.pcode.specs.declared.block.Block.{Block}
 use Rattle.pcode.proofs.Ids.{same_id_refl}
@@ -20,7 +20,7 @@ use Rattle.vars.specs.Vars.{ids_in, ids_of, row_of, held_ids, vars_of, too_many,
 use Rattle.vars.specs.declared.Vars.{Vars}
 use Rattle.vars.proofs.Rows.{row_below, named_has, has_here}
 use Rattle.vars.proofs.Joining.{named_held, no_ids_length}
-use Rattle.text.specs.declared.answer.Answer.TheVariants.{Ok}
+use Rattle.std.proofs.Common.{Ok}
 use Rattle.checks.specs.Statements.{good_operand, good_parts}
 use Rattle.checks.specs.Checks.{check_of}
 use Rattle.checks.proofs.Passing.{Good, Passing, passing}
@@ -40,7 +40,7 @@ operand_in vars (Var v) h e n =
 
 output_in : (vars : Vars) (o : Output) → InOperand 48 vars (as_operand o) → InOutput 48 vars o
 output_in vars Out.None i = tt
-output_in vars (Out.Var v) i = i
+output_in vars (Out.Some v) i = i
 
 -- a good statement whose ids the table holds
 in_store : (vars : Vars) (s : Stmt) → length (held_ids vars) ≤ 48 → Good s → ((id : VarId) → has_id (ids_of s) id ≡ true → has_id (held_ids vars) id ≡ true) → InStore vars s
@@ -60,18 +60,18 @@ table_length : (l : List VarId) → length l ≤ 112 → length (table_of l).ids
 table_length l h = length-append l (drop (length l) no_ids) ∙ (let q = length-drop (length l) no_ids in omega (arith, q, no_ids_length, h))
 
 -- a checked block stands in the store
-pub standing : (b : Block) (vars : Vars) → length b.stmts ≡ 129 → check_of first_limits b ≡ Ok → vars ≡ (named_of (cap_of 48) (held b)).vars → Stands b.stmts b.count vars
-standing b vars l e q =
+pub standing : (b : Block) (ss : List Stmt) (vars : Vars) → ss ≡ held b → check_of first_limits b ≡ Ok tt → vars ≡ (named_of (cap_of 48) ss).vars → Stands ss vars
+standing b ss vars i e r =
+    let q : vars ≡ (named_of (cap_of 48) (held b)).vars = r ∙ ap (λ (l : List Stmt). (named_of (cap_of 48) l).vars) i in
     let f = passing first_limits b e in
     let held-is : held_ids vars ≡ vars_of (held b) = ap held_ids q ∙ named_held 48 (held b) f.vars in
     let n : length (held_ids vars) ≤ 48 = subst (λ (k : List VarId). length k ≤ 48) (sym held-is) f.vars in
-    let c : length (held b) ≡ b.count = length-take-le b.count b.stmts (omega (arith, l, f.stmts)) in
+    subst (λ (l : List Stmt). Stands l vars) (sym i)
     record {
-      few = f.stmts;
+      few = f.short;
       table = ap (λ (z : Vars). length z.ids) q ∙ table_length (vars_of (take (too_many 48 (held b)) (held b))) (short b f);
       parts = λ i h.
-          subst (InStore vars) (get_or-take b.count b.stmts i blank_stmt h)
-          (in_store vars (get_or (held b) i blank_stmt) n (f.each i (omega (arith, c, h))) (λ id k. subst (λ (z : List VarId). has_id z id ≡ true) (sym held-is) (named_has (held b) i blank_stmt id (omega (arith, c, h)) k)));
+          in_store vars (get_or (held b) i blank_stmt) n (f.each i h) (λ id k. subst (λ (z : List VarId). has_id z id ≡ true) (sym held-is) (named_has (held b) i blank_stmt id h k));
     }
   where
     short : (b : Block) → Passing first_limits b → length (vars_of (take (too_many 48 (held b)) (held b))) ≤ 112

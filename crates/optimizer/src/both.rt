@@ -2,28 +2,15 @@
 ghost use Rattle.std.specs.Prelude.{◌≡◌};
 ghost use Rattle.optimizer.specs.Both.{both_of};
 
-use crate::first::{const_prop, treated};
-use crate::second::{Treated, dead_store_elimination};
+use crate::first::const_prop;
+use crate::second::dead_store_elimination;
 use pcode::block::{Block, Marks};
-use text::answer::Answer;
+use pcode::refusal::Refusal;
 
-// A refusal of either pass hands back the block given.
-pub fn both(block: Block, marks: Marks) -> Treated
-    ensures { result ≡ both_of block marks }
+// A treated block, or the refusal of either pass.
+pub fn both(block: &Block, marks: Marks) -> Result<Block, Refusal>
+    ensures { result ≡ both_of block.now marks }
 {
-    let t = const_prop(block, marks);
-    let answer = t.answer;
-    let between = t.block;
-    match answer {
-        Answer::Ok => {
-            let u = dead_store_elimination(between, marks);
-            let a = u.answer;
-            let out = u.block;
-            treated(a, out, block)
-        }
-        Answer::Refused(why) => Treated {
-            answer: Answer::Refused(why),
-            block,
-        },
-    }
+    let between = const_prop(block, marks)?;
+    dead_store_elimination(&between, marks)
 }

@@ -1,4 +1,3 @@
 pub mod Ids
 pub mod Cut
 pub mod Names
-pub mod Marks

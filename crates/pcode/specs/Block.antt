@@ -1,9 +1,9 @@
 -- Statements, blocks, marks and limits.
 use Rattle.std.specs.Prelude.{◌+◌, Bool, false, not, ◌&&◌, ◌||◌, List, [], ◌∷◌, ltb, pos, take, set, replicate}
-use Rattle.pcode.specs.Var.{pick, same_id, less_id}
+use Rattle.pcode.specs.Var.{pick, same_id, less_id, Output}
 use Rattle.pcode.specs.declared.var.VarId.{VarId}
 use Rattle.pcode.specs.declared.var.Operand.{Operand}
-use Rattle.pcode.specs.declared.var.Output.{Output}
+use Rattle.std.specs.declared.option.Option.TheVariants as Out
 use Rattle.pcode.specs.declared.op.TrapOp.TheVariants.{Invalid}
 use Rattle.pcode.specs.declared.op.Op.{Op}
 use Rattle.pcode.specs.declared.op.Op.TheVariants.{Trap}
@@ -18,7 +18,7 @@ stmt_of op o a b = record { op = op; output = o; first = a; second = b }
 
 -- what stands past a block's last statement
 abbrev pub blank_stmt : Stmt
-blank_stmt = stmt_of (Trap Invalid) Output.None Operand.None Operand.None
+blank_stmt = stmt_of (Trap Invalid) Out.None Operand.None Operand.None
 
 -- 129 blank statements
 unfoldable pub blank_stmts : List Stmt

@@ -1,10 +1,8 @@
 -- The operations' names in the text form, and their codes: the place of an operation's name in the list of names.
-use Rattle.std.specs.Prelude.{ℕ, ◌-◌, Bool, true, false, List, [], ◌∷◌, map, eqb, leb, ltb, get_or}
+use Rattle.std.specs.Prelude.{ℕ, ◌-◌, Bool, true, false, List, [], ◌∷◌, Option, None, Some, map, eqb, leb, ltb, get_or}
 use Prim.Native.String.{String, [] as end, ◌∷◌ as ◌then◌}
 use Prim.Native.Char.{code}
 use Rattle.pcode.specs.Var.{pick}
-use Rattle.pcode.specs.declared.name.Number.{Number}
-use Rattle.pcode.specs.declared.name.Number.TheVariants.{None as NoNumber, Some as Numbered}
 use Rattle.pcode.specs.declared.op.OneOp.{OneOp}
 use Rattle.pcode.specs.declared.op.OneOp.TheVariants.{Copy, ZeroExtend, SignExtend, IntNot, IntNegate, IntCountOnes, IntCountLeadingZeroes, BoolNot}
 use Rattle.pcode.specs.declared.op.TwoOp.{TwoOp}
@@ -182,26 +180,26 @@ code_of (Compare k) = code_compare_op k
 code_of (BoolOf k) = code_bool_op k
 
 -- the number that stands in an operation's second field
-abbrev pub number_of : Op → Number
-number_of (Trap k) = NoNumber
-number_of InstructionMarker = NoNumber
-number_of (PcodeLabel l) = Numbered l.0
-number_of (PcodeBranch l) = Numbered l.0
-number_of (Branch n) = Numbered n
-number_of (Load n) = Numbered n
-number_of (Store n) = Numbered n
-number_of (Call k n) = Numbered n
-number_of (Select n) = Numbered n
-number_of (Subpiece n) = Numbered n
-number_of (Opaque k) = NoNumber
-number_of (Float k) = NoNumber
-number_of (One k) = NoNumber
-number_of (Two k) = NoNumber
-number_of (Divide k) = NoNumber
-number_of (Shift k) = NoNumber
-number_of (Rotate k) = NoNumber
-number_of (Compare k) = NoNumber
-number_of (BoolOf k) = NoNumber
+abbrev pub number_of : Op → Option ℕ
+number_of (Trap k) = None
+number_of InstructionMarker = None
+number_of (PcodeLabel l) = Some l.0
+number_of (PcodeBranch l) = Some l.0
+number_of (Branch n) = Some n
+number_of (Load n) = Some n
+number_of (Store n) = Some n
+number_of (Call k n) = Some n
+number_of (Select n) = Some n
+number_of (Subpiece n) = Some n
+number_of (Opaque k) = None
+number_of (Float k) = None
+number_of (One k) = None
+number_of (Two k) = None
+number_of (Divide k) = None
+number_of (Shift k) = None
+number_of (Rotate k) = None
+number_of (Compare k) = None
+number_of (BoolOf k) = None
 
 -- the operations without a number, family by family, in the order of their names
 abbrev pub one_ops : List OneOp

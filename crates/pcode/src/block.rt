@@ -1,6 +1,6 @@
 // Statements, blocks, marks, and the limits of the two passes.
-ghost use Rattle.std.specs.Prelude.{◌≡◌, Bool, true, false, ℕ, ◌≤◌, ◌<◌, length, take, drop, get_or, set};
-ghost use Rattle.pcode.specs.Block.{stmt_of, blank_stmt, blank_stmts, empty_block, pushed, has_id, marked, lasting, no_marks, first_limits, second_limits};
+ghost use Rattle.std.specs.Prelude.{◌≡◌, Bool, true, false, ℕ, ◌≤◌, ◌<◌, length, take};
+ghost use Rattle.pcode.specs.Block.{stmt_of, blank_stmt, blank_stmts, empty_block, pushed, held, mark_ids, has_id, marked, lasting, no_marks};
 
 use crate::op::{Op, TrapOp};
 use crate::var::{Operand, Output, VarId};
@@ -32,7 +32,7 @@ impl Stmt {
     {
         Stmt {
             op: Op::Trap(TrapOp::Invalid),
-            output: Output::None,
+            output: None,
             first: Operand::None,
             second: Operand::None,
         }
@@ -46,19 +46,27 @@ pub struct Block {
     pub count: usize,
 }
 
-fn blanks() -> [Stmt; 129]
-    ensures { result ≡ blank_stmts }
-{
-    let s = Stmt::blank();
-    [s; 129]
-}
-
 impl Block {
+    #[tactic(auto, unfolding(crate::specs::Block::blank_stmts))]
     pub fn new() -> Block
         ensures { result ≡ empty_block }
     {
-        let stmts = blanks();
-        Block { stmts, count: 0 }
+        Block {
+            stmts: [Stmt::blank(); 129],
+            count: 0,
+        }
+    }
+
+    // The statements that it holds.
+    pub fn held(&self) -> &[Stmt]
+        ensures { result.now ≡ held self.now }
+    {
+        let n = self.count;
+        if n < 129 {
+            &self.stmts[..n]
+        } else {
+            &self.stmts
+        }
     }
 
     // The block with one statement more; a full one stays.
@@ -83,22 +91,11 @@ pub struct Marks {
     pub count: usize,
 }
 
-// Whether an id stands among the first `n` of `ids`.
-fn has_id(ids: [VarId; 16], n: usize, id: VarId) -> bool
-    ensures { result ≡ has_id (take n ids) id }
+// Whether an id stands in a list.
+fn has_id(ids: &[VarId], id: VarId) -> bool
+    ensures { result ≡ has_id ids.now id }
 {
-    let mut i: usize = 0;
-    while i < 16 {
-        if n <= i {
-            return false;
-        }
-        let m = ids[i];
-        if m.same(id) {
-            return true;
-        }
-        i += 1;
-    }
-    false
+    ids.contains(&id)
 }
 
 impl Marks {
@@ -111,23 +108,25 @@ impl Marks {
         }
     }
 
+    // The ids themselves.
+    pub fn held(&self) -> &[VarId]
+        ensures { result.now ≡ mark_ids self.now }
+    {
+        let n = self.count;
+        if n < 16 { &self.ids[..n] } else { &self.ids }
+    }
+
     pub fn has(self, id: VarId) -> bool
         ensures { result ≡ marked self id }
     {
-        let ids = self.ids;
-        let n = self.count;
-        has_id(ids, n, id)
+        has_id(self.held(), id)
     }
 
     // A variable is lasting if its id is above 0 and not marked temporary; else it is a temporary.
     pub fn lasting(self, id: VarId) -> bool
         ensures { result ≡ lasting self id }
     {
-        let zero = VarId(0);
-        if !zero.less(id) {
-            return false;
-        }
-        !self.has(id)
+        VarId(0) < id && !self.has(id)
     }
 }
 
@@ -148,16 +147,4 @@ impl Limits {
         stmts: 129,
         vars: 112,
     };
-
-    pub fn first() -> Limits
-        ensures { result ≡ first_limits }
-    {
-        Limits::FIRST
-    }
-
-    pub fn second() -> Limits
-        ensures { result ≡ second_limits }
-    {
-        Limits::SECOND
-    }
 }

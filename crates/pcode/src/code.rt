@@ -1,8 +1,7 @@
 // The operations' codes: an operation's code is the place of its name in the list of names.
 ghost use Rattle.std.specs.Prelude.{◌≡◌, ℕ};
-ghost use Rattle.pcode.specs.Names.{code_one_op, code_two_op, code_divide_op, code_shift_op, code_rotate_op, code_compare_op, code_bool_op, code_float_op, code_opaque_op, code_trap_op, code_call_op, code_of, number_of, op_of, with_number};
+ghost use Rattle.pcode.specs.Names.{code_of, number_of, op_of, with_number};
 
-use crate::name::Number;
 use crate::op::{
     BoolOp, CallOp, CompareOp, DivideOp, FloatOp, OneOp, Op, OpaqueOp, RotateOp, ShiftOp, TrapOp,
     TwoOp,
@@ -93,225 +92,63 @@ const CALL_OPS: [CallOp; 6] = [
     CallOp::TracerStore,
 ];
 
-impl OneOp {
-    fn code(self) -> usize
-        ensures { result ≡ code_one_op self }
-    {
-        match self {
-            OneOp::Copy => 0,
-            OneOp::ZeroExtend => 1,
-            OneOp::SignExtend => 2,
-            OneOp::IntNot => 3,
-            OneOp::IntNegate => 4,
-            OneOp::IntCountOnes => 5,
-            OneOp::IntCountLeadingZeroes => 6,
-            OneOp::BoolNot => 7,
-        }
-    }
-}
-
-impl TwoOp {
-    fn code(self) -> usize
-        ensures { result ≡ code_two_op self }
-    {
-        match self {
-            TwoOp::IntAdd => 8,
-            TwoOp::IntSub => 9,
-            TwoOp::IntXor => 10,
-            TwoOp::IntOr => 11,
-            TwoOp::IntAnd => 12,
-            TwoOp::IntMul => 13,
-        }
-    }
-}
-
-impl DivideOp {
-    fn code(self) -> usize
-        ensures { result ≡ code_divide_op self }
-    {
-        match self {
-            DivideOp::IntDiv => 14,
-            DivideOp::IntSignedDiv => 15,
-            DivideOp::IntRem => 16,
-            DivideOp::IntSignedRem => 17,
-        }
-    }
-}
-
-impl ShiftOp {
-    fn code(self) -> usize
-        ensures { result ≡ code_shift_op self }
-    {
-        match self {
-            ShiftOp::IntLeft => 18,
-            ShiftOp::IntRight => 19,
-            ShiftOp::IntSignedRight => 20,
-        }
-    }
-}
-
-impl RotateOp {
-    fn code(self) -> usize
-        ensures { result ≡ code_rotate_op self }
-    {
-        match self {
-            RotateOp::IntRotateLeft => 21,
-            RotateOp::IntRotateRight => 22,
-        }
-    }
-}
-
-impl CompareOp {
-    fn code(self) -> usize
-        ensures { result ≡ code_compare_op self }
-    {
-        match self {
-            CompareOp::IntEqual => 23,
-            CompareOp::IntNotEqual => 24,
-            CompareOp::IntLess => 25,
-            CompareOp::IntSignedLess => 26,
-            CompareOp::IntLessEqual => 27,
-            CompareOp::IntSignedLessEqual => 28,
-            CompareOp::IntCarry => 29,
-            CompareOp::IntSignedCarry => 30,
-            CompareOp::IntSignedBorrow => 31,
-        }
-    }
-}
-
-impl BoolOp {
-    fn code(self) -> usize
-        ensures { result ≡ code_bool_op self }
-    {
-        match self {
-            BoolOp::BoolAnd => 32,
-            BoolOp::BoolOr => 33,
-            BoolOp::BoolXor => 34,
-        }
-    }
-}
-
-impl FloatOp {
-    fn code(self) -> usize
-        ensures { result ≡ code_float_op self }
-    {
-        match self {
-            FloatOp::FloatAdd => 35,
-            FloatOp::FloatSub => 36,
-            FloatOp::FloatMul => 37,
-            FloatOp::FloatDiv => 38,
-            FloatOp::FloatNegate => 39,
-            FloatOp::FloatAbs => 40,
-            FloatOp::FloatSqrt => 41,
-            FloatOp::FloatCeil => 42,
-            FloatOp::FloatFloor => 43,
-            FloatOp::FloatRound => 44,
-            FloatOp::FloatIsNan => 45,
-            FloatOp::FloatEqual => 46,
-            FloatOp::FloatNotEqual => 47,
-            FloatOp::FloatLess => 48,
-            FloatOp::FloatLessEqual => 49,
-        }
-    }
-}
-
-impl OpaqueOp {
-    fn code(self) -> usize
-        ensures { result ≡ code_opaque_op self }
-    {
-        match self {
-            OpaqueOp::IntToFloat => 50,
-            OpaqueOp::UintToFloat => 51,
-            OpaqueOp::FloatToFloat => 52,
-            OpaqueOp::FloatToInt => 53,
-            OpaqueOp::MultiEqual => 54,
-            OpaqueOp::Indirect => 55,
-        }
-    }
-}
-
-impl TrapOp {
-    fn code(self) -> usize
-        ensures { result ≡ code_trap_op self }
-    {
-        match self {
-            TrapOp::Invalid => 56,
-            TrapOp::Exception => 57,
-        }
-    }
-}
-
-impl CallOp {
-    fn code(self) -> usize
-        ensures { result ≡ code_call_op self }
-    {
-        match self {
-            CallOp::Arg => 66,
-            CallOp::PcodeOp => 67,
-            CallOp::Hook => 68,
-            CallOp::HookIf => 69,
-            CallOp::TracerLoad => 70,
-            CallOp::TracerStore => 71,
-        }
-    }
-}
-
 impl Op {
     // The place of its name in the list of names.
     pub fn code(self) -> usize
         ensures { result ≡ code_of self }
     {
         match self {
-            Op::Trap(k) => k.code(),
+            Op::Trap(k) => 56 + k as usize,
             Op::InstructionMarker => 58,
             Op::PcodeLabel(_) => 65,
             Op::PcodeBranch(_) => 64,
             Op::Branch(_) => 63,
             Op::Load(_) => 61,
             Op::Store(_) => 62,
-            Op::Call(k, _) => k.code(),
+            Op::Call(k, _) => 66 + k as usize,
             Op::Select(_) => 60,
             Op::Subpiece(_) => 59,
-            Op::Opaque(k) => k.code(),
-            Op::Float(k) => k.code(),
-            Op::One(k) => k.code(),
-            Op::Two(k) => k.code(),
-            Op::Divide(k) => k.code(),
-            Op::Shift(k) => k.code(),
-            Op::Rotate(k) => k.code(),
-            Op::Compare(k) => k.code(),
-            Op::Bool(k) => k.code(),
+            Op::Opaque(k) => 50 + k as usize,
+            Op::Float(k) => 35 + k as usize,
+            Op::One(k) => k as usize,
+            Op::Two(k) => 8 + k as usize,
+            Op::Divide(k) => 14 + k as usize,
+            Op::Shift(k) => 18 + k as usize,
+            Op::Rotate(k) => 21 + k as usize,
+            Op::Compare(k) => 23 + k as usize,
+            Op::Bool(k) => 32 + k as usize,
         }
     }
 
-    // Its number in the text form.
-    pub fn number(self) -> Number
+    // Its number in the text form, where it has one.
+    pub fn number(self) -> Option<u16>
         ensures { result ≡ number_of self }
     {
         match self {
-            Op::Trap(_) => Number::None,
-            Op::InstructionMarker => Number::None,
-            Op::PcodeLabel(l) => Number::Some(l.0),
-            Op::PcodeBranch(l) => Number::Some(l.0),
-            Op::Branch(n) => Number::Some(n),
-            Op::Load(n) => Number::Some(n),
-            Op::Store(n) => Number::Some(n),
-            Op::Call(_, n) => Number::Some(n),
-            Op::Select(n) => Number::Some(n),
-            Op::Subpiece(n) => Number::Some(n),
-            Op::Opaque(_) => Number::None,
-            Op::Float(_) => Number::None,
-            Op::One(_) => Number::None,
-            Op::Two(_) => Number::None,
-            Op::Divide(_) => Number::None,
-            Op::Shift(_) => Number::None,
-            Op::Rotate(_) => Number::None,
-            Op::Compare(_) => Number::None,
-            Op::Bool(_) => Number::None,
+            Op::Trap(_) => None,
+            Op::InstructionMarker => None,
+            Op::PcodeLabel(l) => Some(l.0),
+            Op::PcodeBranch(l) => Some(l.0),
+            Op::Branch(n) => Some(n),
+            Op::Load(n) => Some(n),
+            Op::Store(n) => Some(n),
+            Op::Call(_, n) => Some(n),
+            Op::Select(n) => Some(n),
+            Op::Subpiece(n) => Some(n),
+            Op::Opaque(_) => None,
+            Op::Float(_) => None,
+            Op::One(_) => None,
+            Op::Two(_) => None,
+            Op::Divide(_) => None,
+            Op::Shift(_) => None,
+            Op::Rotate(_) => None,
+            Op::Compare(_) => None,
+            Op::Bool(_) => None,
         }
     }
 
     // The operation with that code and number; `Invalid` past the last code.
+    #[tactic(auto, unfolding(crate::specs::Names::op_of))]
     pub fn named(code: usize, number: u16) -> Op
         ensures { result ≡ op_of code number }
     {

@@ -199,15 +199,6 @@ pub enum SizeRule {
     AtMostFirst(u16),
 }
 
-fn all_same(a: u8, b: u8, o: u8) -> bool
-    ensures { result ≡ (eqb a o && eqb b o) }
-{
-    if a != o {
-        return false;
-    }
-    b == o
-}
-
 impl SizeRule {
     pub fn met(self, a: u8, b: u8, o: u8) -> bool
         ensures { result ≡ fits_rule self a b o }
@@ -216,7 +207,7 @@ impl SizeRule {
             SizeRule::Any => true,
             SizeRule::FirstIsOutput => a == o,
             SizeRule::FirstFitsOutput => a <= o,
-            SizeRule::AllSame => all_same(a, b, o),
+            SizeRule::AllSame => a == o && b == o,
             SizeRule::OperandsSame => a == b,
             SizeRule::AtMostFirst(k) => k <= a as u16,
         }

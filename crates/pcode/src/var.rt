@@ -3,69 +3,32 @@ ghost use Rattle.std.specs.Prelude.{◌≡◌, true, false, ℕ, ℤ, pos, negsu
 ghost use Rattle.pcode.specs.Var.{zero_id, same_id, less_id, least_id, below_id, same_label, cut, size_of, size_out, as_operand};
 
 // A variable's id: not a label's number, not an expression's.
-#[derive(Clone, Copy)]
+#[derive(Clone, Copy, PartialEq, Eq, PartialOrd, Ord)]
 pub struct VarId(pub i16);
 
 // A label's number.
-#[derive(Clone, Copy)]
+#[derive(Clone, Copy, PartialEq, Eq)]
 pub struct PcodeLabel(pub u16);
 
 // An expression's id, given in the order in which expressions are made.
-#[derive(Clone, Copy)]
+#[derive(Clone, Copy, PartialEq, Eq)]
 pub struct OutputExprId(pub u32);
 
 impl VarId {
-    pub fn is_zero(self) -> bool
-        ensures { result ≡ zero_id self }
-    {
-        let id = self.0;
-        id == 0
-    }
-
-    pub fn same(self, other: VarId) -> bool
-        ensures { result ≡ same_id self other }
-    {
-        let a = self.0;
-        let b = other.0;
-        a == b
-    }
-
-    pub fn less(self, other: VarId) -> bool
-        ensures { result ≡ less_id self other }
-    {
-        let a = self.0;
-        let b = other.0;
-        a < b
-    }
-
     pub fn least(self, other: VarId) -> VarId
         ensures { result ≡ least_id self other }
     {
-        if other.less(self) {
-            return other;
-        }
-        self
+        self.min(other)
     }
 
     // One below; -32768, which has none below it, stays.
     pub fn below(self) -> VarId
         ensures { result ≡ below_id self }
     {
-        let a = self.0;
-        if a == -32768 {
+        if self == VarId(-32768) {
             return self;
         }
-        VarId(a - 1)
-    }
-}
-
-impl PcodeLabel {
-    pub fn same(self, other: PcodeLabel) -> bool
-        ensures { result ≡ same_label self other }
-    {
-        let a = self.0;
-        let b = other.0;
-        a == b
+        VarId(self.0 - 1)
     }
 }
 
@@ -85,12 +48,8 @@ pub enum Operand {
     Var(VarNode),
 }
 
-// What a statement writes: nothing, or a part of a variable.
-#[derive(Clone, Copy)]
-pub enum Output {
-    None,
-    Var(VarNode),
-}
+// What a statement writes: a part of a variable, or nothing.
+pub type Output = Option<VarNode>;
 
 impl Operand {
     pub const NONE: Operand = Operand::None;
@@ -112,6 +71,7 @@ impl Operand {
     }
 
     // A constant is cut to its size.
+    #[tactic(auto, using(crate::proofs::Cut::whole))]
     pub fn constant(value: u64, size: u8) -> Operand
         ensures { result ≡ Operand.Const (cut value size) size }
     {
@@ -135,37 +95,24 @@ impl Operand {
     }
 }
 
-impl Output {
-    pub const NONE: Output = Output::None;
-
-    pub fn none() -> Output
-        ensures { result ≡ Output.None }
-    {
-        Output::NONE
-    }
-
-    pub fn var(id: VarId, offset: u8, size: u8) -> Output
-        ensures { result ≡ Output.Var (record { id = id; offset = offset; size = size }) }
-    {
-        Output::Var(VarNode { id, offset, size })
-    }
-
-    pub fn size(self) -> u8
-        ensures { result ≡ size_out self }
-    {
-        match self {
-            Output::None => 0,
-            Output::Var(v) => v.size,
-        }
-    }
+impl From<Output> for Operand {
+    ghost from_gives = { λ o a. a ≡ as_operand o };
 
     // The same part of a variable as an operand.
-    pub fn operand(self) -> Operand
-        ensures { result ≡ as_operand self }
-    {
-        match self {
-            Output::None => Operand::None,
-            Output::Var(v) => Operand::Var(v),
+    fn from(o: Output) -> Operand {
+        match o {
+            None => Operand::None,
+            Some(v) => Operand::Var(v),
         }
+    }
+}
+
+// How many bytes an output names; none for no output.
+pub fn output_size(o: Output) -> u8
+    ensures { result ≡ size_out o }
+{
+    match o {
+        None => 0,
+        Some(v) => v.size,
     }
 }

@@ -1,17 +1,9 @@
 -- A block's text, one record more.
-use Prim.Native.Nat.{ℕ, ◌+◌, ◌<◌, ◌≤◌}
-use native.Mathlib.Numerals.{add-one}
-use mathlib.Core.Path.{◌≡◌, refl, sym, ap, ◌∙◌}
-use mathlib.Core.List.{List, [], ◌∷◌, ◌++◌, append_assoc, append-nil}
-use lib.ListN.{length, take, get_or}
-use lib.Seq.{take-suc}
+use Rattle.std.proofs.Common.{ℕ, ◌+◌, ◌<◌, ◌≤◌, add-one, ◌≡◌, refl, sym, ap, ◌∙◌, List, [], ◌∷◌, ◌++◌, append_assoc, append-nil, length, take, get_or, take-suc, arith, le-ltb, Some}
 use Rattle.pcode.specs.Block.{blank_stmt}
 use Rattle.pcode.specs.declared.block.Stmt.{Stmt}
-use native.Mathlib.Omega.{arith}
-use borrow.Author.Tests.{le-ltb}
 use Rattle.print.specs.Texts.{Wrote}
 use Rattle.print.specs.Printing.{record_text, printed, Print}
-use Rattle.print.specs.declared.print.Printed.TheVariants.{Written}
 
 pub printed_none : (ss : List Stmt) → [] ≡ printed (take 0 ss)
 unfolding printed
@@ -28,7 +20,7 @@ printed_more ss i h =
     ∙ ap printed (sym (take-suc ss i blank_stmt h) ∙ ap (λ (k : ℕ). take k ss) (sym (add-one i)))
 
 -- a text written at the start of a buffer with room is what printing promises
-pub printed_at : (room : ℕ) {k r : ℕ} {old text new : List ℕ} → room ≤ length old → Wrote k old 0 text new r → Print room text old new (Written r)
+pub printed_at : (room : ℕ) {k r : ℕ} {old text new : List ℕ} → room ≤ length old → Wrote k old 0 text new r → Print room text old new (Some r)
 printed_at room {r = r} {old = old} {text = text} h w =
     let e : r ≡ length text = omega (arith, w.place) in
-    record { answer = ap Written e ∙ simp (le-ltb (length old) room h); memory = w.bytes }
+    record { answer = ap Some e ∙ simp (le-ltb (length old) room h); memory = w.bytes }

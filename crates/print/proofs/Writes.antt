@@ -1,13 +1,9 @@
--- Writing one text after another is writing both; writing byte by byte is writing the row.
-use Prim.Native.Nat.{ℕ, zero, suc, ◌+◌, ◌-◌, ◌/◌, ◌%◌, ◌<◌, ◌≤◌}
-use native.Mathlib.Numerals.{add-one}
-use native.Mathlib.Nat.{add-zero, not-suc-le-zero}
-use native.Mathlib.Omega.{arith}
-use mathlib.Core.Path.{◌≡◌, refl, sym, ap, ◌∙◌}
-use mathlib.Core.List.{List, [], ◌∷◌, ◌++◌, append_assoc}
-use borrow.Author.Tests.{lt-ltb, le-ltb}
-use lib.ListN.{length, take, drop, get_or, set, length-append, length-drop, take-append-drop}
-use lib.Seq.{set_split, length-take-le, take_at, drop-append-add, drop-drop, take-suc}
+-- Writing one text after another is writing both; copying a row is writing it.
+use Rattle.std.proofs.Common.{ℕ, zero, suc, ◌+◌, ◌-◌, ◌/◌, ◌%◌, ◌<◌, ◌≤◌, add-one, add-zero, not-suc-le-zero, arith, ◌≡◌, refl, sym, ap, ◌∙◌, List, [], ◌∷◌, ◌++◌, append_assoc, lt-ltb, le-ltb, length, take, drop, set, length-append, length-drop, take-append-drop, length-take-le, take_at, drop-drop}
+use lib.Seq.{set_split, drop-append-add}
+use borrow.Rule.Slice.PartMut.{put_mid}
+use Rattle.std.proofs.lemmas.Slice.{put_mid-paste}
+use Rattle.std.proofs.lemmas.List.Edits.{paste_all}
 use Rattle.print.specs.Texts.{Wrote, written, digits_text}
 
 module _ (d : List ℕ) (at : ℕ) where
@@ -78,16 +74,13 @@ retold {d = d} {e = e} {at = at} {p = p} {xs = xs} {ys = ys} g h w =
 pub none : (d : List ℕ) (at : ℕ) → Wrote 0 d at [] d at
 none d at = record { place = sym (add-zero at); bytes = sym (written_none d at); kept = refl; width = omega arith }
 
--- byte by byte: the first i bytes of a row are there
-module _ (d : List ℕ) (at : ℕ) (s : List ℕ) (i : ℕ) (h : i < length s) (room : at + length s ≤ length d) where
-  pub row_more : set (written d at (take i s)) (at + i) (get_or s i 0) ≡ written d at (take (i + 1) s)
-  row_more =
-      let n : length (take i s) ≡ i = length-take-le i s (omega arith) in
-      let m : length (written d at (take i s)) ≡ length d = written_length d at (take i s) (omega arith) in
-      written_one (written d at (take i s)) (at + i) (get_or s i 0) (omega arith)
-      ∙ ap (λ (k : ℕ). written (written d at (take i s)) (at + k) (get_or s i 0 ∷ [])) (sym n)
-      ∙ join d at (take i s) (get_or s i 0 ∷ []) (omega arith)
-      ∙ ap (written d at) (sym (take-suc s i 0 h) ∙ ap (λ (k : ℕ). take k s) (sym (add-one i)))
+-- a row copied over a part of a buffer
+pub copied : (d : List ℕ) (at k : ℕ) (s : List ℕ) (now : List ℕ) → at + length s ≤ length d → k ≡ length s → now ≡ s
+    → Wrote (length s) d at s (put_mid at k d now) (at + length s)
+unfolding written
+copied d at k s now h l e =
+    let b : put_mid at k d now ≡ written d at s = put_mid-paste at k d now s (length s) e (sym l) refl ∙ paste_all d at s (length s) refl in
+    record { place = refl; bytes = b; kept = ap length b ∙ written_length d at s h; width = omega arith }
 
 -- the digits, as the code makes them
 pub no_digit : (k v : ℕ) → k ≡ 0 → [] ≡ digits_text k v

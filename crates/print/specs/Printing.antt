@@ -1,5 +1,5 @@
 -- The text of a block and of a refusal.
-use Rattle.std.specs.Prelude.{ℕ, ◌≡◌, List, [], ◌∷◌, ◌++◌, ltb, length}
+use Rattle.std.specs.Prelude.{ℕ, ◌≡◌, List, [], ◌∷◌, ◌++◌, Option, None, Some, ltb, length}
 use Rattle.pcode.specs.Var.{pick, as_operand}
 use Rattle.pcode.specs.Names.{bytes_of, name_of, code_of, number_of}
 use Rattle.pcode.specs.Refusals.{refusal_number, refusal_place}
@@ -8,8 +8,6 @@ use Rattle.pcode.specs.declared.var.Operand.{Operand}
 use Rattle.pcode.specs.declared.block.Stmt.{Stmt}
 use Rattle.pcode.specs.declared.refusal.Refusal.{Refusal}
 use Rattle.print.specs.Texts.{written, digits_text, number_text, operand_text}
-use Rattle.print.specs.declared.print.Printed.{Printed}
-use Rattle.print.specs.declared.print.Printed.TheVariants.{NoRoom, Written}
 
 -- what parts fields
 abbrev tab : List ℕ
@@ -42,15 +40,15 @@ refusal_text why =
     bytes_of "refused" ++ (tab ++ (digits_text 2 (refusal_number why) ++ (tab ++ (digits_text 20 (refusal_place why) ++ newline))))
 
 -- a buffer of at least `room` bytes is written to, a smaller one stays
-abbrev pub print_of : ℕ → List ℕ → ℕ → Printed
-print_of room text n = pick (ltb n room) NoRoom (Written (length text))
+abbrev pub print_of : ℕ → List ℕ → ℕ → Option ℕ
+print_of room text n = pick (ltb n room) None (Some (length text))
 
 -- the text at the start of the buffer, where there was room
-abbrev pub after_print : Printed → List ℕ → List ℕ → List ℕ
-after_print NoRoom text old = old
-after_print (Written n) text old = written old 0 text
+abbrev pub after_print : Option ℕ → List ℕ → List ℕ → List ℕ
+after_print None text old = old
+after_print (Some n) text old = written old 0 text
 
 -- the whole promise of a printing function
-pub record Print (room : ℕ) (text old new : List ℕ) (r : Printed) : Type 0 where
+pub record Print (room : ℕ) (text old new : List ℕ) (r : Option ℕ) : Type 0 where
   pub answer : r ≡ print_of room text (length old)
   pub memory : new ≡ after_print r text old

@@ -1,11 +1,8 @@
 -- The text of a record's parts, and what it is to write a text at a place of a buffer.
-use Rattle.std.specs.Prelude.{ℕ, zero, suc, ◌+◌, ◌/◌, ◌%◌, ◌≤◌, ◌≡◌, List, [], ◌∷◌, ◌++◌, ltb, ℤ, pos, negsuc, length, take, drop}
+use Rattle.std.specs.Prelude.{ℕ, zero, suc, ◌+◌, ◌/◌, ◌%◌, ◌≤◌, ◌≡◌, List, [], ◌∷◌, ◌++◌, Option, None, Some, ltb, ℤ, pos, negsuc, length, take, drop}
 use Rattle.pcode.specs.Var.{pick}
-use Rattle.pcode.specs.declared.name.Number.{Number}
-use Rattle.pcode.specs.declared.name.Number.TheVariants.{None as NoNumber, Some as Numbered}
 use Rattle.pcode.specs.declared.var.VarNode.{VarNode}
 use Rattle.pcode.specs.declared.var.Operand.{Operand}
-use Rattle.pcode.specs.declared.var.Operand.TheVariants.{None, Const, Var}
 
 -- a buffer with a text written at a place
 unfoldable pub written : List ℕ → ℕ → List ℕ → List ℕ
@@ -23,20 +20,15 @@ unfoldable pub digits_text : ℕ → ℕ → List ℕ
 digits_text zero v = []
 digits_text (suc k) v = pick (ltb v 10) ((48 + v) ∷ []) (digits_text k (v / 10) ++ ((48 + v % 10) ∷ []))
 
--- a signed number without its sign
-unfoldable pub mag_of : ℤ → ℕ
-mag_of (pos n) = n
-mag_of (negsuc n) = n + 1
-
 -- a signed number of 16 bits
 unfoldable pub id_text : ℤ → List ℕ
 id_text (pos n) = digits_text 5 n
 id_text (negsuc n) = (45 ∷ []) ++ digits_text 5 (n + 1)
 
 -- the number of an operation that has one, `-` else
-abbrev pub number_text : Number → List ℕ
-number_text NoNumber = 45 ∷ []
-number_text (Numbered n) = digits_text 5 n
+abbrev pub number_text : Option ℕ → List ℕ
+number_text None = 45 ∷ []
+number_text (Some n) = digits_text 5 n
 
 -- `c32767:2`
 unfoldable pub const_text : ℕ → ℕ → List ℕ
@@ -49,6 +41,6 @@ var_text v =
 
 -- `-`, a constant or a part of a variable
 abbrev pub operand_text : Operand → List ℕ
-operand_text None = 45 ∷ []
-operand_text (Const v n) = const_text v n
-operand_text (Var v) = var_text v
+operand_text Operand.None = 45 ∷ []
+operand_text (Operand.Const v n) = const_text v n
+operand_text (Operand.Var v) = var_text v

@@ -11,12 +11,6 @@ use pcode::op::Op;
 use pcode::refusal::Refusal;
 use pcode::var::Operand;
 
-#[derive(Clone, Copy)]
-pub enum Printed {
-    NoRoom,
-    Written(usize),
-}
-
 // The room that a record is given, with its LF.
 pub const RECORD: usize = 106;
 
@@ -55,61 +49,44 @@ fn record(out: &mut [u8], at: usize, s: Stmt) -> usize
     requires { at + record_room ≤ length out.old }
     ensures { Wrote record_room out.old at (record_text s) out.new result }
 {
-    let op = s.op;
-    let output = s.output;
-    let first = s.first;
-    let second = s.second;
-    let o = output.operand();
-    let a = op_fields(out, at, op);
-    operand_fields(out, a, o, first, second)
+    let a = op_fields(out, at, s.op);
+    operand_fields(out, a, Operand::from(s.output), s.first, s.second)
 }
 
-// The first `n` records.
-fn records(out: &mut [u8], stmts: [Stmt; 129], n: usize) -> usize
-    requires { (n ≤ 129) × (record_room * n ≤ length out.old) }
-    ensures { Wrote (record_room * n) out.old 0 (printed (take n stmts)) out.new result }
+// The records of some statements, one after another.
+fn records(out: &mut [u8], stmts: &[Stmt]) -> usize
+    requires { record_room * length stmts.now ≤ length out.old }
+    ensures { Wrote (record_room * length stmts.now) out.old 0 (printed stmts.now) out.new result }
 {
     let mut at: usize = 0;
-    let mut i: usize = 0;
-    while i < n {
-        let s = stmts[i];
-        at = record(out, at, s);
-        i += 1;
+    for s in stmts {
+        at = record(out, at, *s);
     }
     at
 }
 
-// The first `count` statements, where the buffer has room.
-fn statements(stmts: [Stmt; 129], count: usize, out: &mut [u8]) -> Printed
-    ensures { Print (record_room * length (take count stmts)) (printed (take count stmts)) out.old out.new result }
+// A block's records, one a line; none where the buffer has no room.
+pub fn print(block: &Block, out: &mut [u8]) -> Option<usize>
+    ensures { Print (record_room * length (held block.now)) (printed (held block.now)) out.old out.new result }
 {
-    let n = text::read::room(count);
-    if out.len() < RECORD * n {
-        return Printed::NoRoom;
+    let stmts = block.held();
+    if out.len() < RECORD * stmts.len() {
+        return None;
     }
-    Printed::Written(records(out, stmts, n))
+    Some(records(out, stmts))
 }
 
-// A block's records, one a line.
-pub fn print(block: Block, out: &mut [u8]) -> Printed
-    ensures { Print (record_room * length (held block)) (printed (held block)) out.old out.new result }
-{
-    let stmts = block.stmts;
-    let n = block.count;
-    statements(stmts, n, out)
-}
-
-// `refused`, tab, number, tab, place.
-pub fn refusal(why: Refusal, out: &mut [u8]) -> Printed
+// `refused`, tab, number, tab, place; none where the buffer has no room.
+pub fn refusal(why: Refusal, out: &mut [u8]) -> Option<usize>
     ensures { Print refusal_room (refusal_text why) out.old out.new result }
 {
     if out.len() < REFUSAL {
-        return Printed::NoRoom;
+        return None;
     }
     let a = copy(out, 0, b"refused");
     let b = byte(out, a, b'\t');
     let c = decimal(out, b, why.number() as u64, 2);
     let d = byte(out, c, b'\t');
     let e = decimal(out, d, why.place() as u64, 20);
-    Printed::Written(byte(out, e, b'\n'))
+    Some(byte(out, e, b'\n'))
 }

@@ -1,10 +1,10 @@
 // Writing the parts of a record at a place of a lent buffer; each answers the place after them.
+// Buffer and place are arguments: with a struct of both the parts prove, but not what the buffer holds at the end, since a method may lend another in its place.
 ghost use Rattle.std.specs.Prelude.{◌≡◌, List, [], ◌∷◌, ℕ, ◌+◌, ◌<◌, ◌≤◌, length};
 ghost use Rattle.pcode.specs.Names.{name_of, number_of};
 ghost use Rattle.print.specs.Rooms.{name_room, number_room, id_room, const_room, var_room, operand_room};
-ghost use Rattle.print.specs.Texts.{Wrote, digits_text, mag_of, id_text, number_text, const_text, var_text, operand_text};
+ghost use Rattle.print.specs.Texts.{Wrote, digits_text, id_text, number_text, const_text, var_text, operand_text};
 
-use pcode::name::{Number, name_byte, name_len};
 use pcode::op::Op;
 use pcode::var::{Operand, VarId, VarNode};
 
@@ -44,13 +44,9 @@ pub fn copy(out: &mut [u8], at: usize, s: &[u8]) -> usize
     requires { at + length s.now ≤ length out.old }
     ensures { Wrote (length s.now) out.old at s.now out.new result }
 {
-    let n = s.len();
-    let mut i: usize = 0;
-    while i < n {
-        out[at + i] = s[i];
-        i += 1;
-    }
-    at + n
+    let end = at + s.len();
+    out[at..end].copy_from_slice(s);
+    end
 }
 
 // The name with that code.
@@ -58,13 +54,7 @@ pub fn name(out: &mut [u8], at: usize, code: usize) -> usize
     requires { at + name_room ≤ length out.old }
     ensures { Wrote name_room out.old at (name_of code) out.new result }
 {
-    let n = name_len(code);
-    let mut i: usize = 0;
-    while i < n {
-        out[at + i] = name_byte(code, i);
-        i += 1;
-    }
-    at + n
+    copy(out, at, pcode::name::name(code))
 }
 
 // An operation's number, or `-`.
@@ -73,28 +63,17 @@ pub fn number(out: &mut [u8], at: usize, op: Op) -> usize
     ensures { Wrote number_room out.old at (number_text (number_of op)) out.new result }
 {
     match op.number() {
-        Number::None => byte(out, at, b'-'),
-        Number::Some(n) => decimal(out, at, n as u64, 5),
+        None => byte(out, at, b'-'),
+        Some(n) => decimal(out, at, n as u64, 5),
     }
-}
-
-fn magnitude(id: VarId) -> u64
-    ensures { result ≡ mag_of id.0 }
-{
-    let a = id.0;
-    if a < 0 {
-        return ((-1 - a) as u64) + 1;
-    }
-    a as u64
 }
 
 fn id(out: &mut [u8], at: usize, v: VarId) -> usize
     requires { at + id_room ≤ length out.old }
     ensures { Wrote id_room out.old at (id_text v.0) out.new result }
 {
-    let m = magnitude(v);
-    let zero = VarId(0);
-    if v.less(zero) {
+    let m = v.0.unsigned_abs() as u64;
+    if v < VarId(0) {
         let p = byte(out, at, b'-');
         return decimal(out, p, m, 5);
     }
@@ -115,15 +94,12 @@ fn variable(out: &mut [u8], at: usize, v: VarNode) -> usize
     requires { at + var_room ≤ length out.old }
     ensures { Wrote var_room out.old at (var_text v) out.new result }
 {
-    let i = v.id;
-    let o = v.offset;
-    let n = v.size;
     let p = byte(out, at, b'v');
-    let q = id(out, p, i);
+    let q = id(out, p, v.id);
     let r = byte(out, q, b':');
-    let s = decimal(out, r, o as u64, 3);
+    let s = decimal(out, r, v.offset as u64, 3);
     let t = byte(out, s, b':');
-    decimal(out, t, n as u64, 3)
+    decimal(out, t, v.size as u64, 3)
 }
 
 // An operand, or `-`.

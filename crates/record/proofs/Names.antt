@@ -1,38 +1,9 @@
--- Comparing two rows of bytes, and searching a name, one step at a time.
-use Prim.Native.Nat.{ℕ, suc, ◌+◌, ◌<◌, ◌≤◌}
-use native.Mathlib.Numerals.{add-one}
-use native.Mathlib.Omega.{arith}
-use mathlib.Core.Path.{◌≡◌, refl, ap}
-use mathlib.Core.Bool.{Bool, true, false}
-use mathlib.Core.List.{List, [], ◌∷◌, map}
-use borrow.Author.Tests.{eq-eqb, ne_eqb}
-use lib.Dec.{eqb}
-use lib.ListN.{length, get_or, drop, drop_of_length-le}
-use lib.Seq.{drop-cons}
+-- Searching a name, one step at a time, and what `==` says of two rows of bytes.
+use Rattle.std.proofs.Common.{ℕ, suc, ◌+◌, ◌<◌, ◌≤◌, add-one, arith, ◌≡◌, refl, Bool, true, false, ◌&&◌, List, [], ◌∷◌, map, eqb, ltb, Some, None, length, get_or, drop, drop_of_length-le, drop-cons}
+use Rattle.std.specs.Cmp.Lexicographic.{pointwise}
 use Rattle.pcode.specs.Var.{pick}
 use Rattle.pcode.specs.Names.{bytes_of, names, name_of, eq_bytes}
-use Rattle.record.specs.Names.{first_named, code_named}
-
-never : (t : Bool) → pick t false false ≡ false
-never true = refl
-never false = refl
-
-pub other_length : (a b : List ℕ) → (length a ≡ length b → ⊥) → eq_bytes a b ≡ false
-other_length [] [] h = absurd (h refl)
-other_length [] (y ∷ b) h = refl
-other_length (x ∷ a) [] h = refl
-other_length (x ∷ a) (y ∷ b) h = rw (other_length a b (λ e. h (ap suc e))) (never (eqb x y))
-
-module _ (a b : List ℕ) (i : ℕ) where
-  pub same_end : length a ≤ i → length b ≤ i → eq_bytes (drop i a) (drop i b) ≡ true
-  same_end h k = rw (drop_of_length-le a h, drop_of_length-le b k)
-
-  module _ (h : i < length a) (k : i < length b) where
-    pub same_more : get_or a i 0 ≡ get_or b i 0 → eq_bytes (drop i a) (drop i b) ≡ eq_bytes (drop (i + 1) a) (drop (i + 1) b)
-    same_more e = rw (drop-cons a i 0 h, drop-cons b i 0 k, eq-eqb _ _ e, add-one)
-
-    pub same_not : (get_or a i 0 ≡ get_or b i 0 → ⊥) → eq_bytes (drop i a) (drop i b) ≡ false
-    same_not e = rw (drop-cons a i 0 h, drop-cons b i 0 k, ne_eqb _ _ e)
+use Rattle.record.specs.Names.{first_named, code_named, code_read}
 
 module _ (l : List (List ℕ)) (s : List ℕ) (k : ℕ) where
   named_end : length l ≤ k → first_named (drop k l) s ≡ 0
@@ -72,3 +43,31 @@ module _ (k : ℕ) (s : List ℕ) where
     pub code_more : eq_bytes (name_of k) s ≡ false → code_from k s ≡ suc (code_from (k + 1) s)
     unfolding code_from name_of
     code_more e = named_more (map bytes_of names) s k h e
+
+-- what `==` of two slices says
+pub bytes_are : (a b : List ℕ) → pointwise eqb a b ≡ eq_bytes a b
+bytes_are [] [] = refl
+bytes_are [] (y ∷ b) = refl
+bytes_are (x ∷ a) [] = refl
+bytes_are (x ∷ a) (y ∷ b) = rw (bytes_are a b) (here (eqb x y) (eq_bytes a b))
+  where
+    here : (t u : Bool) → (t && u) ≡ pick t u false
+    here true u = refl
+    here false u = refl
+
+-- what the code that was read says of the definition
+read_is : (n : ℕ) (t : Bool) (k : ℕ) → ltb n 72 ≡ t → pick t (Some n) None ≡ Some k → (n ≡ k) × (ltb k 72 ≡ true)
+read_is n true k e h = let q : n ≡ k = cc in (q, rw q at e)
+read_is n false k e h = cc
+
+not_read : (n : ℕ) (t : Bool) → ltb n 72 ≡ t → pick t (Some n) None ≡ None → ltb n 72 ≡ false
+not_read n true e h = cc
+not_read n false e h = e
+
+pub code_some : (s : List ℕ) (k : ℕ) → code_read s ≡ Some k → (code_named s ≡ k) × (ltb k 72 ≡ true)
+unfolding code_read
+code_some s k h = read_is (code_named s) (ltb (code_named s) 72) k refl h
+
+pub code_none : (s : List ℕ) → code_read s ≡ None → ltb (code_named s) 72 ≡ false
+unfolding code_read
+code_none s h = not_read (code_named s) (ltb (code_named s) 72) refl h

@@ -1,26 +1,18 @@
 -- Runs of one statement list over two tables and rows that agree by id are alike: the order of rows does not matter.
-use Prim.Native.Nat.{ℕ, zero, suc, ◌+◌, ◌*◌, ◌<◌, ◌≤◌}
-use native.Mathlib.Omega.{arith}
-use mathlib.Core.Path.{◌≡◌, refl, sym, ap, ◌∙◌, subst}
-use mathlib.Core.Bool.{Bool, true, false}
-use mathlib.Core.List.{List, [], ◌∷◌, ◌++◌}
-use lib.Dec.{eqb, lit<}
-use lib.ListN.{length, take, drop, get_or}
-use lib.Seq.{get_or-drop}
-use borrow.Author.Tests.{eqb-true, eqb-false}
+use Rattle.std.proofs.Common.{ℕ, zero, suc, ◌+◌, ◌*◌, ◌<◌, ◌≤◌, arith, ◌≡◌, refl, sym, ap, ◌∙◌, subst, Bool, true, false, List, [], ◌∷◌, ◌++◌, eqb, lit<, length, take, drop, get_or, get_or-drop, eqb-true, Ok}
+use borrow.Author.Tests.{eqb-false}
 use Rattle.pcode.specs.Var.{pick, cut, size_of, size_out}
 use Rattle.pcode.specs.Block.{has_id, held, blank_stmt, second_limits}
 use Rattle.pcode.specs.declared.var.VarId.{VarId}
 use Rattle.pcode.specs.declared.var.VarNode.{VarNode}
 use Rattle.pcode.specs.declared.var.Operand.{Operand}
 use Rattle.pcode.specs.declared.var.Operand.TheVariants.{None, Const, Var}
-use Rattle.pcode.specs.declared.var.Output.{Output}
-use Rattle.pcode.specs.declared.var.Output.TheVariants as Out
+use Rattle.pcode.specs.Var.{Output}
+use Rattle.std.specs.declared.option.Option.TheVariants as Out
 use Rattle.pcode.specs.declared.block.Stmt.{Stmt}
 use Rattle.pcode.specs.declared.block.Block.{Block}
 use Rattle.vars.specs.Vars.{row_of, vars_of}
 use Rattle.vars.proofs.Rows.{row_below, row_apart, ways, named_has}
-use Rattle.text.specs.declared.answer.Answer.TheVariants.{Ok}
 use Rattle.checks.specs.Checks.{check_of}
 use Rattle.checks.proofs.Passing.{passing}
 use Rattle.state.specs.Bytes.{num_of, read_of}
@@ -30,8 +22,8 @@ use Rattle.step.specs.Events.{Event, Taken}
 use Rattle.step.specs.Steps.{Machine, act_of, answer_at, loaded_rows, rows_after, loads_after, events_of, flow_of, step_of}
 use Rattle.step.specs.declared.Act.{Act}
 use Rattle.step.specs.declared.Act.TheVariants.{Nothing, Marks, Jumps, Exits, Loads, Stores, Computes}
-use Rattle.step.specs.declared.Flow.{Flow}
-use Rattle.step.specs.declared.Flow.TheVariants.{Next, Jump}
+use Rattle.step.specs.Steps.{Flow}
+use Rattle.std.specs.Prelude.{None as Next, Some as Jump}
 use Rattle.run.specs.Run.{arrived, run_from, Shape}
 use Rattle.renumber.specs.Agree.{by_id, AgreeById, loaded, stored, taken, marked, ended, AllAlike, none, more, HeldStmt, HeldAll}
 use Rattle.run.proofs.Ready.{ready}
@@ -55,10 +47,10 @@ module _ (ids : List VarId) (rows : List (List ℕ)) (s : Shape rows) (o : VarNo
   inside : row_of ids o.id < 112
   inside = let b = row_below ids o.id h.named in let r = h.room in omega arith
 
-  own_byte : by_id ids (written ids rows (Out.Var o) v) o.id k ≡ byte_after o.offset o.size v k (by_id ids rows o.id k)
+  own_byte : by_id ids (written ids rows (Out.Some o) v) o.id k ≡ byte_after o.offset o.size v k (by_id ids rows o.id k)
   own_byte = write_own rows (row_of ids o.id) o.offset o.size v s inside h.inside k
 
-  other_byte : (id : VarId) → (row_of ids id ≡ row_of ids o.id → ⊥) → by_id ids (written ids rows (Out.Var o) v) id k ≡ by_id ids rows id k
+  other_byte : (id : VarId) → (row_of ids id ≡ row_of ids o.id → ⊥) → by_id ids (written ids rows (Out.Some o) v) id k ≡ by_id ids rows id k
   other_byte id n = write_other rows (row_of ids o.id) o.offset o.size v s inside h.inside (row_of ids id) k n
 
 module _ (ids ids' : List VarId) (rows rows' : List (List ℕ)) (agree : AgreeById ids ids' rows rows') where
@@ -75,10 +67,10 @@ module _ (ids ids' : List VarId) (rows rows' : List (List ℕ)) (agree : AgreeBy
     -- and what is written is written alike
     pub written_same : (o : Output) → HeldOutput ids o → HeldOutput ids' o → (v : ℕ) → AgreeById ids ids' (written ids rows o v) (written ids' rows' o v)
     written_same Out.None h h' v id m m' k = agree id m m' k
-    written_same (Out.Var o) h h' v id m m' k =
+    written_same (Out.Some o) h h' v id m m' k =
         ways (eqb (row_of ids id) (row_of ids o.id))
         (λ t. let same = row_apart ids id o.id m h.named (eqb-true _ _ t) in
-        subst (λ (x : VarId). by_id ids (written ids rows (Out.Var o) v) x k ≡ by_id ids' (written ids' rows' (Out.Var o) v) x k) (sym same)
+        subst (λ (x : VarId). by_id ids (written ids rows (Out.Some o) v) x k ≡ by_id ids' (written ids' rows' (Out.Some o) v) x k) (sym same)
         (own_byte ids rows s o h v k ∙ ap (byte_after o.offset o.size v k) (agree o.id h.named h'.named k) ∙ sym (own_byte ids' rows' s' o h' v k)))
         (λ t. let other = eqb-false _ _ t in
         other_byte ids rows s o h v k id other ∙ agree id m m' k
@@ -160,7 +152,7 @@ held_all ids [] h = tt
 held_all ids (s ∷ ss) h = (h 0 (omega arith), held_all ids ss (λ i k. h (suc i) (omega arith)))
 
 -- every table that has a checked block's variables, in any order, holds its statements
-pub checked_held : (b : Block) → check_of second_limits b ≡ Ok → (ids : List VarId) → length ids ≤ 112
+pub checked_held : (b : Block) → check_of second_limits b ≡ Ok tt → (ids : List VarId) → length ids ≤ 112
     → ((id : VarId) → has_id (vars_of (held b)) id ≡ true → has_id ids id ≡ true) → HeldAll ids (held b)
 checked_held b e ids m h =
     held_all ids (held b)

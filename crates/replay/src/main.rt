@@ -5,35 +5,31 @@ mod cases; // cases.rt: one input, treated and compared
 
 use front::Pass;
 use input::fill;
+use sections::Sections;
 use sections::tally::{Tally, page, room};
 use std::io;
 
 // The passes whose recorded answers have that first letter.
 fn pass_of(letter: u8) -> Pass {
-    if letter == b'f' {
-        return Pass::First;
+    match letter {
+        b'f' => Pass::First,
+        b's' => Pass::Second,
+        _ => Pass::Both,
     }
-    if letter == b's' {
-        return Pass::Second;
-    }
-    Pass::Both
 }
 
+// The answers in the sections with that first letter, each to the input above it.
 fn replay(list: &[u8], letter: u8, out: &mut [u8]) -> Tally {
+    let pass = pass_of(letter);
     let mut tally = Tally::NONE;
-    let mut at: usize = 0;
-    while at < list.len() {
-        let c = sections::next_case(list, letter, at);
-        let from = c.from;
-        let to = c.to;
-        let start = c.start;
-        let end = c.end;
-        if end <= at {
-            return tally;
+    let mut input: &[u8] = &[];
+    for s in Sections(list) {
+        if s.name == letter {
+            tally = tally.with(cases::agrees(pass, input, s.bytes, out));
+            input = &[];
+        } else if s.name == b'i' {
+            input = s.bytes;
         }
-        at = end;
-        let same = cases::agrees(pass_of(letter), &list[from..to], &list[start..end], out);
-        tally = tally.with(same);
     }
     tally
 }

@@ -1,22 +1,13 @@
 -- Decimals: the digits of a number are read as it, and a row that is read as a number is its digits.
-use Prim.Native.Nat.{ℕ, zero, suc, ◌+◌, ◌*◌, ◌-◌, ◌/◌, ◌%◌, ◌^◌, ◌<◌, ◌≤◌}
-use native.Mathlib.Omega.{arith}
-use native.Mathlib.Nat.{pow-suc}
-use mathlib.Core.Path.{◌≡◌, refl, sym, ap, ◌∙◌}
-use mathlib.Core.Bool.{Bool, true, false}
-use mathlib.Core.Logic.{◌⊎◌, inl, inr}
-use mathlib.Core.List.{List, [], ◌∷◌, ◌++◌, append-nil}
-use borrow.Author.Tests.{ne_eqb, eqb-false, lt-ltb, le-ltb, ltb-true, ltb-false, le-leb}
-use lib.Dec.{eqb, leb, ltb}
-use lib.ListN.{length, length-append}
+use Rattle.std.proofs.Common.{Option, None, Some, ℕ, zero, suc, ◌+◌, ◌*◌, ◌-◌, ◌/◌, ◌%◌, ◌^◌, ◌<◌, ◌≤◌, arith, pow-suc, ◌≡◌, refl, sym, ap, ◌∙◌, Bool, true, false, ◌⊎◌, inl, inr, List, [], ◌∷◌, ◌++◌, append-nil, ne_eqb, lt-ltb, le-ltb, ltb-true, ltb-false, le-leb, eqb, leb, ltb, length, length-append}
+use borrow.Author.Tests.{eqb-false}
 use lib.Seq.{append_snoc}
 use Rattle.pcode.specs.Var.{pick}
 use Rattle.fields.specs.Decimals.{step_of, on_value, digits_of, decimal_of}
 use Rattle.fields.specs.Parts.{count_of}
-use Rattle.fields.specs.declared.decimal.Parsed.{Parsed}
-use Rattle.fields.specs.declared.decimal.Parsed.TheVariants.{Bad, Value}
 use Rattle.print.specs.Texts.{digits_text}
 use Rattle.roundtrip.proofs.Parts.{Without}
+use Rattle.roundtrip.proofs.Inverse.{bad_good}
 
 -- k digits are enough for a number
 abbrev pub Enough : ℕ → ℕ → Type 0
@@ -86,41 +77,41 @@ unfolding digits_text
 digits_more k v h = rw (le-ltb v 10 h)
 
 -- digits put after digits
-digits_then : (limit : ℕ) (xs ys : List ℕ) (u w : ℕ) → digits_of limit u xs ≡ Value w → digits_of limit u (xs ++ ys) ≡ digits_of limit w ys
+digits_then : (limit : ℕ) (xs ys : List ℕ) (u w : ℕ) → digits_of limit u xs ≡ Some w → digits_of limit u (xs ++ ys) ≡ digits_of limit w ys
 unfolding digits_of
-digits_then limit [] ys u w e = ap (λ (p : Parsed). on_value p Bad (λ (v : ℕ). digits_of limit v ys)) e
+digits_then limit [] ys u w e = ap (λ (p : Option ℕ). on_value p None (λ (v : ℕ). digits_of limit v ys)) e
 digits_then limit (x ∷ xs) ys u w e₀ = go (step_of limit u x) (digits_then limit xs ys) e₀
   where
-    go : (p : Parsed) → ((u w : ℕ) → digits_of limit u xs ≡ Value w → digits_of limit u (xs ++ ys) ≡ digits_of limit w ys) →
-        on_value p Bad (λ v. digits_of limit v xs) ≡ Value w → on_value p Bad (λ v. digits_of limit v (xs ++ ys)) ≡ digits_of limit w ys
-    go Bad f e = ap (λ (p : Parsed). on_value p Bad (λ (v : ℕ). digits_of limit v ys)) e
-    go (Value v) f e = f v w e
+    go : (p : Option ℕ) → ((u w : ℕ) → digits_of limit u xs ≡ Some w → digits_of limit u (xs ++ ys) ≡ digits_of limit w ys) →
+        on_value p None (λ v. digits_of limit v xs) ≡ Some w → on_value p None (λ v. digits_of limit v (xs ++ ys)) ≡ digits_of limit w ys
+    go None f e = ap (λ (p : Option ℕ). on_value p None (λ (v : ℕ). digits_of limit v ys)) e
+    go (Some v) f e = f v w e
 
-step_value : (limit u d : ℕ) → d < 10 → 10 * u + d ≤ limit → step_of limit u (48 + d) ≡ Value (10 * u + d)
+step_value : (limit u d : ℕ) → d < 10 → 10 * u + d ≤ limit → step_of limit u (48 + d) ≡ Some (10 * u + d)
 unfolding step_of
 step_value limit u d h g =
     let e : 48 + d - 48 ≡ d = omega arith in
     rw (le-ltb (48 + d) 48 (omega arith), le-ltb 57 (48 + d) (omega arith), e, le-leb (10 * u + d) limit g)
 
-digits_single : (limit u d : ℕ) → d < 10 → 10 * u + d ≤ limit → digits_of limit u ((48 + d) ∷ []) ≡ Value (10 * u + d)
+digits_single : (limit u d : ℕ) → d < 10 → 10 * u + d ≤ limit → digits_of limit u ((48 + d) ∷ []) ≡ Some (10 * u + d)
 unfolding digits_of
 digits_single limit u d h g = rw (step_value limit u d h g)
 
-digits_read : (limit k v : ℕ) → Enough k v → v ≤ limit → digits_of limit 0 (digits_text k v) ≡ Value v
+digits_read : (limit k v : ℕ) → Enough k v → v ≤ limit → digits_of limit 0 (digits_text k v) ≡ Some v
 digits_read limit zero v h g = absurd h
 digits_read limit (suc k) v h g = go (ltb v 10) refl (digits_read limit k (v / 10))
   where
-    go : (t : Bool) → ltb v 10 ≡ t → (Enough k (v / 10) → v / 10 ≤ limit → digits_of limit 0 (digits_text k (v / 10)) ≡ Value (v / 10)) →
-        digits_of limit 0 (digits_text (suc k) v) ≡ Value v
+    go : (t : Bool) → ltb v 10 ≡ t → (Enough k (v / 10) → v / 10 ≤ limit → digits_of limit 0 (digits_text k (v / 10)) ≡ Some (v / 10)) →
+        digits_of limit 0 (digits_text (suc k) v) ≡ Some v
     go true e f =
         let q : 10 * 0 + v ≡ v = omega arith in
-        rw (digits_one k v (ltb-true v 10 e)) (digits_single limit 0 v (ltb-true v 10 e) (omega arith) ∙ ap Value q)
+        rw (digits_one k v (ltb-true v 10 e)) (digits_single limit 0 v (ltb-true v 10 e) (omega arith) ∙ ap Some q)
     go false e f =
         let m : 10 ≤ v = ltb-false v 10 e in
         let q : 10 * (v / 10) + v % 10 ≡ v = omega arith in
         rw (digits_more k v m)
         (digits_then limit (digits_text k (v / 10)) ((48 + v % 10) ∷ []) 0 (v / 10) (f (h m) (omega arith))
-        ∙ digits_single limit (v / 10) (v % 10) (omega arith) (omega arith) ∙ ap Value q)
+        ∙ digits_single limit (v / 10) (v % 10) (omega arith) (omega arith) ∙ ap Some q)
 
 -- a row that starts with no zero
 abbrev Leads : List ℕ → Type 0
@@ -151,7 +142,7 @@ decimal_led limit (b ∷ []) h = refl
 decimal_led limit (b ∷ c ∷ s) h = rw (ne_eqb b 48 h)
 
 -- the digits of a number within the limit are read as it
-pub decimal_digits : (limit k v : ℕ) → Enough k v → v ≤ limit → decimal_of limit (digits_text k v) ≡ Value v
+pub decimal_digits : (limit k v : ℕ) → Enough k v → v ≤ limit → decimal_of limit (digits_text k v) ≡ Some v
 unfolding decimal_of
 decimal_digits limit zero v h g = absurd h
 decimal_digits limit (suc k) zero h g = rw (digits_one k 0 (omega arith)) (digits_single limit 0 0 (omega arith) (omega arith))
@@ -164,17 +155,14 @@ record Step (u b w : ℕ) : Type 0 where
   high : b ≤ 57
   value : 10 * u + (b - 48) ≡ w
 
-pub clash : (v : ℕ) → Bad ≡ Value v → ⊥
-clash v e = let z : ◌≡◌ {A = ℕ} 0 1 = cc in omega arith
-
-step_read : (limit u b w : ℕ) → step_of limit u b ≡ Value w → Step u b w
+step_read : (limit u b w : ℕ) → step_of limit u b ≡ Some w → Step u b w
 unfolding step_of
 step_read limit u b w = go (ltb b 48) (ltb 57 b) (leb (10 * u + (b - 48)) limit) refl refl
   where
-    go : (s t z : Bool) → ltb b 48 ≡ s → ltb 57 b ≡ t → pick s Bad (pick t Bad (pick z (Value (10 * u + (b - 48))) Bad)) ≡ Value w → Step u b w
-    go true t z h k e = absurd (clash w e)
-    go false true z h k e = absurd (clash w e)
-    go false false false h k e = absurd (clash w e)
+    go : (s t z : Bool) → ltb b 48 ≡ s → ltb 57 b ≡ t → pick s None (pick t None (pick z (Some (10 * u + (b - 48))) None)) ≡ Some w → Step u b w
+    go true t z h k e = absurd (bad_good w e)
+    go false true z h k e = absurd (bad_good w e)
+    go false false false h k e = absurd (bad_good w e)
     go false false true h k e = record { low = ltb-false b 48 h; high = ltb-false 57 b k; value = cc }
 
 -- a row's number of digits does not matter where it is enough
@@ -201,7 +189,7 @@ module _ (k u b : ℕ) (h : Enough k u) (g : 0 < u) (low : 48 ≤ b) (high : b �
       digits_more k w (omega arith) ∙ rw (q, r)
 
 -- digits that follow those of u, read on from u to v
-follow : (limit : ℕ) (s : List ℕ) (k u v n : ℕ) → n ≡ k + length s → Enough k u → 0 < u → digits_of limit u s ≡ Value v →
+follow : (limit : ℕ) (s : List ℕ) (k u v n : ℕ) → n ≡ k + length s → Enough k u → 0 < u → digits_of limit u s ≡ Some v →
     (digits_text k u ++ s ≡ digits_text n v) × Enough n v
 unfolding digits_of
 follow limit [] k u v n a h g e =
@@ -210,11 +198,11 @@ follow limit [] k u v n a h g e =
     (append-nil (digits_text k u) ∙ rw (q, r), rw (r, ← q) h)
 follow limit (b ∷ s) k u v n a h g e₀ = go (step_of limit u b) refl (follow limit s (suc k)) e₀
   where
-    go : (p : Parsed) → step_of limit u b ≡ p → ((u v n : ℕ) → n ≡ suc k + length s → Enough (suc k) u → 0 < u → digits_of limit u s ≡ Value v →
+    go : (p : Option ℕ) → step_of limit u b ≡ p → ((u v n : ℕ) → n ≡ suc k + length s → Enough (suc k) u → 0 < u → digits_of limit u s ≡ Some v →
         (digits_text (suc k) u ++ s ≡ digits_text n v) × Enough n v) →
-        on_value p Bad (λ w. digits_of limit w s) ≡ Value v → (digits_text k u ++ b ∷ s ≡ digits_text n v) × Enough n v
-    go Bad q f e = absurd (clash v e)
-    go (Value w) q f e =
+        on_value p None (λ w. digits_of limit w s) ≡ Some v → (digits_text k u ++ b ∷ s ≡ digits_text n v) × Enough n v
+    go None q f e = absurd (bad_good v e)
+    go (Some w) q f e =
         let t = step_read limit u b w q in
         let m : 0 < w = omega (arith, t.value) in
         let r = f w v n (omega (arith, a)) (next_enough k u b h g t.low t.high w t.value) m e in
@@ -224,14 +212,14 @@ follow limit (b ∷ s) k u v n a h g e₀ = go (step_of limit u b) refl (follow 
 first_digit : (b w : ℕ) → 48 ≤ b → b ≤ 57 → 10 * 0 + (b - 48) ≡ w → (w < 10) × (48 + w ≡ b)
 first_digit b w low high e = (omega arith, omega arith)
 
-digits_back : (limit b : ℕ) (s : List ℕ) (v : ℕ) → (b ≡ 48 → ⊥) → digits_of limit 0 (b ∷ s) ≡ Value v →
+digits_back : (limit b : ℕ) (s : List ℕ) (v : ℕ) → (b ≡ 48 → ⊥) → digits_of limit 0 (b ∷ s) ≡ Some v →
     (b ∷ s ≡ digits_text (1 + length s) v) × Enough (1 + length s) v
 unfolding digits_of
 digits_back limit b s v h = go (step_of limit 0 b) refl
   where
-    go : (p : Parsed) → step_of limit 0 b ≡ p → on_value p Bad (λ w. digits_of limit w s) ≡ Value v → (b ∷ s ≡ digits_text (1 + length s) v) × Enough (1 + length s) v
-    go Bad q e = absurd (clash v e)
-    go (Value w) q e =
+    go : (p : Option ℕ) → step_of limit 0 b ≡ p → on_value p None (λ w. digits_of limit w s) ≡ Some v → (b ∷ s ≡ digits_text (1 + length s) v) × Enough (1 + length s) v
+    go None q e = absurd (bad_good v e)
+    go (Some w) q e =
         let t = step_read limit 0 b w q in
         let d = first_digit b w t.low t.high t.value in
         let m : 0 < w = omega (arith, positive t.low t.value) in
@@ -244,27 +232,27 @@ digits_back limit b s v h = go (step_of limit 0 b) refl
         positive : 48 ≤ b → 10 * 0 + (b - 48) ≡ w → 0 < w
         positive i j = omega (arith, h)
 
-digits_alone : (limit k b v : ℕ) → digits_of limit 0 (b ∷ []) ≡ Value v → b ∷ [] ≡ digits_text (suc k) v
+digits_alone : (limit k b v : ℕ) → digits_of limit 0 (b ∷ []) ≡ Some v → b ∷ [] ≡ digits_text (suc k) v
 unfolding digits_of
 digits_alone limit k b v = go (step_of limit 0 b) refl
   where
-    go : (p : Parsed) → step_of limit 0 b ≡ p → on_value p Bad Value ≡ Value v → b ∷ [] ≡ digits_text (suc k) v
-    go Bad q e = absurd (clash v e)
-    go (Value w) q e =
+    go : (p : Option ℕ) → step_of limit 0 b ≡ p → on_value p None Some ≡ Some v → b ∷ [] ≡ digits_text (suc k) v
+    go None q e = absurd (bad_good v e)
+    go (Some w) q e =
         let t = step_read limit 0 b w q in
         let r : w ≡ v = cc in
         let d = first_digit b v t.low t.high (t.value ∙ r) in
         ap (λ (x : ℕ). x ∷ []) (sym d.1) ∙ sym (digits_one k v d.0)
 
 -- a decimal that is read as a number is its digits, in a room that is enough
-pub decimal_back : (limit k : ℕ) (s : List ℕ) (v : ℕ) → Enough (suc k) v → decimal_of limit s ≡ Value v → s ≡ digits_text (suc k) v
+pub decimal_back : (limit k : ℕ) (s : List ℕ) (v : ℕ) → Enough (suc k) v → decimal_of limit s ≡ Some v → s ≡ digits_text (suc k) v
 unfolding decimal_of
-decimal_back limit k [] v h e = absurd (clash v e)
+decimal_back limit k [] v h e = absurd (bad_good v e)
 decimal_back limit k (b ∷ []) v h e = digits_alone limit k b v e
 decimal_back limit k (b ∷ c ∷ s) v h e₀ = go (eqb b 48) refl e₀
   where
-    go : (t : Bool) → eqb b 48 ≡ t → pick t Bad (digits_of limit 0 (b ∷ c ∷ s)) ≡ Value v → b ∷ c ∷ s ≡ digits_text (suc k) v
-    go true q e = absurd (clash v e)
+    go : (t : Bool) → eqb b 48 ≡ t → pick t None (digits_of limit 0 (b ∷ c ∷ s)) ≡ Some v → b ∷ c ∷ s ≡ digits_text (suc k) v
+    go true q e = absurd (bad_good v e)
     go false q e =
         let r = digits_back limit b (c ∷ s) v (eqb-false b 48 q) e in
         r.0 ∙ same_digits (1 + length (c ∷ s)) (suc k) v r.1 h

@@ -1,9 +1,5 @@
 -- A line of five fields parted by tabs.
-use Prim.Native.Nat.{ℕ, suc, ◌+◌}
-use native.Mathlib.Omega.{arith}
-use mathlib.Core.Path.{◌≡◌, ap, ◌∙◌}
-use mathlib.Core.List.{List, [], ◌∷◌, ◌++◌, append_assoc}
-use lib.ListN.{length, length-append}
+use Rattle.std.proofs.Common.{ℕ, suc, ◌+◌, arith, ◌≡◌, ap, ◌∙◌, List, [], ◌∷◌, ◌++◌, append_assoc, length, length-append}
 use Rattle.fields.specs.Parts.{part_of, count_of}
 use Rattle.roundtrip.proofs.Parts.{Without, count_other, count_at, without_append, part_last, part_first, part_next}
 

@@ -1,11 +1,5 @@
 -- A file's lines, put together again, are the file; lines put together are taken apart again.
-use Prim.Native.Nat.{ℕ}
-use mathlib.Core.Path.{◌≡◌, refl, sym, ap, ◌∙◌}
-use mathlib.Core.Bool.{Bool, true, false}
-use mathlib.Core.List.{List, [], ◌∷◌, ◌++◌, map, append_assoc}
-use native.Mathlib.Omega.{arith}
-use borrow.Author.Tests.{eqb-true}
-use lib.Dec.{eqb}
+use Rattle.std.proofs.Common.{ℕ, ◌≡◌, refl, sym, ap, ◌∙◌, Bool, true, false, List, [], ◌∷◌, ◌++◌, map, append_assoc, eqb-true, eqb}
 use Rattle.pcode.specs.Var.{pick}
 use Rattle.pcode.specs.declared.var.VarId.{VarId}
 use Rattle.pcode.specs.declared.block.Stmt.{Stmt}
@@ -55,7 +49,7 @@ unfolding lines_of
 some_line b s = go (eqb b newline) (lines_of s)
   where
     clash : (l : List ℕ) (ls : List (List ℕ)) → l ∷ ls ≡ [] → ⊥
-    clash l ls e = let z : ◌≡◌ {A = ℕ} 0 1 = cc in omega arith
+    clash l ls e = cc
 
     go : (t : Bool) (ls : List (List ℕ)) → pick t ([] ∷ ls) (in_front b ls) ≡ [] → ⊥
     go true ls e = clash [] ls e

@@ -1,20 +1,11 @@
 -- A mark's line is read as the mark.
-use Prim.Native.Nat.{ℕ, suc, ◌≤◌}
-use native.Mathlib.Omega.{arith}
-use mathlib.Core.Path.{◌≡◌, refl, ap, ◌∙◌}
-use mathlib.Core.Bool.{true}
-use mathlib.Core.Logic.{inl}
-use mathlib.Core.List.{List, [], ◌∷◌, ◌++◌}
-use borrow.Author.Tests.{le-ltb, lt-ltb}
-use lib.IntN.{ℤ, pos, negsuc}
-use lib.ListN.{length}
+use Rattle.std.proofs.Common.{Some, ℕ, suc, ◌≤◌, arith, ◌≡◌, refl, ap, ◌∙◌, true, inl, List, [], ◌∷◌, ◌++◌, le-ltb, lt-ltb, ℤ, pos, negsuc, length}
 use lib.Signed.{lt_z}
 use Rattle.pcode.specs.Names.{bytes_of, eq_bytes}
 use Rattle.pcode.specs.declared.var.VarId.{VarId}
 use Rattle.fields.specs.Parts.{part_of, count_of}
 use Rattle.record.specs.Operands.{id_of}
 use Rattle.record.specs.Records.{mark_of, record_of}
-use Rattle.record.specs.declared.operand.ReadId.TheVariants as ReadId
 use Rattle.record.specs.declared.record.Record.TheVariants.{Mark}
 use Rattle.print.specs.Texts.{id_text}
 use Rattle.roundtrip.specs.Fits.{FitsId, FitsMark}
@@ -35,7 +26,7 @@ pub mark_newline : (v : VarId) → Without 10 (mark_line v)
 unfolding mark_line count_of
 mark_newline v = id_apart 10 v.0 (inl (omega arith))
 
-mark_good : (line : List ℕ) (v : VarId) → eq_bytes (part_of 9 line 0) (bytes_of "temporary") ≡ true → id_of (part_of 9 line 1) ≡ ReadId.Good v → lt_z (pos 0) v.0 ≡ true → mark_of line ≡ Mark v
+mark_good : (line : List ℕ) (v : VarId) → eq_bytes (part_of 9 line 0) (bytes_of "temporary") ≡ true → id_of (part_of 9 line 1) ≡ Some v → lt_z (pos 0) v.0 ≡ true → mark_of line ≡ Some (Mark v)
 unfolding mark_of
 mark_good line v a b c = rw (a, b, c)
 
@@ -48,7 +39,7 @@ above (pos n) f = (f.1, lt-ltb 0 n f.0)
 above (negsuc n) f = absurd f
 
 -- a mark's line is read as the mark
-pub mark_read : (v : VarId) → FitsMark v.0 → record_of (mark_line v) ≡ Mark v
+pub mark_read : (v : VarId) → FitsMark v.0 → record_of (mark_line v) ≡ Some (Mark v)
 unfolding mark_line count_of
 mark_read v f =
     let t = bytes_of "temporary" in

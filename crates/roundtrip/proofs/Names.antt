@@ -1,14 +1,5 @@
 -- Names and codes: a name's code is the one that it is the name of, and a row that has a code is its name.
-use Prim.Native.Nat.{ℕ, zero, suc, ◌<◌}
-use native.Mathlib.Omega.{arith}
-use native.Mathlib.Nat.{not-suc-le-zero, le_of_suc-le-suc, eq-or-lt_of_le}
-use mathlib.Core.Path.{◌≡◌, refl, ap, ◌∙◌}
-use mathlib.Core.Logic.{◌⊎◌, inl, inr}
-use mathlib.Core.Bool.{Bool, true, false}
-use mathlib.Core.List.{List, [], ◌∷◌, map}
-use borrow.Author.Tests.{eqb-true}
-use lib.Dec.{eqb}
-use lib.ListN.{length, get_or}
+use Rattle.std.proofs.Common.{ℕ, zero, suc, ◌<◌, not-suc-le-zero, le_of_suc-le-suc, eq-or-lt_of_le, ◌≡◌, refl, ap, ◌∙◌, ◌⊎◌, inl, inr, Bool, true, false, List, [], ◌∷◌, map, eqb-true, eqb, length, get_or}
 use Rattle.pcode.specs.Var.{pick}
 use Rattle.pcode.specs.Names.{bytes_of, names, name_of, eq_bytes}
 use Rattle.fields.specs.Parts.{count_of}
@@ -21,7 +12,7 @@ every zero p = true
 every (suc n) p = pick (p n) (every n p) false
 
 false_true : false ≡ true → ⊥
-false_true e = let z : ◌≡◌ {A = ℕ} 0 1 = cc in omega arith
+false_true e = cc
 
 pub every_at : (n : ℕ) (p : ℕ → Bool) → every n p ≡ true → (k : ℕ) → k < n → p k ≡ true
 every_at zero p e k h = absurd (not-suc-le-zero h)

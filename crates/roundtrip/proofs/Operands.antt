@@ -1,43 +1,30 @@
 -- Ids, operands and outputs, printed, are read as they were.
-use Prim.Native.Nat.{ℕ, suc, ◌+◌, ◌-◌, ◌^◌, ◌<◌, ◌≤◌}
-use native.Mathlib.Omega.{arith}
-use mathlib.Core.Path.{◌≡◌, refl, ap, ◌∙◌}
-use mathlib.Core.Bool.{false}
-use mathlib.Core.Logic.{◌⊎◌, inl, inr}
-use mathlib.Core.List.{List, [], ◌∷◌, ◌++◌}
-use borrow.Author.Tests.{eq-eqb, ne_eqb}
-use lib.Dec.{eqb}
-use lib.IntN.{ℤ, pos, negsuc}
-use lib.ListN.{length, length-append}
+use Rattle.std.specs.declared.option.Option.TheVariants as Out
+use Rattle.std.proofs.Common.{Some, ℕ, suc, ◌+◌, ◌-◌, ◌^◌, ◌<◌, ◌≤◌, arith, ◌≡◌, refl, ap, ◌∙◌, false, ◌⊎◌, inl, inr, List, [], ◌∷◌, ◌++◌, eq-eqb, ne_eqb, eqb, ℤ, pos, negsuc, length, length-append}
 use Rattle.pcode.specs.Var.{as_operand}
 use Rattle.pcode.specs.declared.var.VarId.{VarId}
 use Rattle.pcode.specs.declared.var.VarNode.{VarNode}
 use Rattle.pcode.specs.declared.var.Operand.{Operand}
-use Rattle.pcode.specs.declared.var.Operand.TheVariants.{None, Const, Var}
-use Rattle.pcode.specs.declared.var.Output.{Output}
+use Rattle.pcode.specs.Var.{Output}
 use Rattle.fields.specs.Parts.{part_of, count_of}
 use Rattle.fields.specs.Decimals.{decimal_of}
-use Rattle.fields.specs.declared.decimal.Parsed.TheVariants.{Value}
 use Rattle.record.specs.Operands.{id_of, var_of, const_of, operand_of, output_of, as_var, as_output}
-use Rattle.record.specs.declared.operand.ReadId.TheVariants as ReadId
-use Rattle.record.specs.declared.operand.ReadVar.TheVariants as ReadVar
-use Rattle.record.specs.declared.operand.ReadOperand.TheVariants as ReadOperand
-use Rattle.record.specs.declared.operand.ReadOutput.TheVariants as ReadOutput
 use Rattle.print.specs.Rooms.{id_room, operand_room}
 use Rattle.print.specs.Texts.{digits_text, id_text, const_text, var_text, operand_text}
 use Rattle.roundtrip.specs.Fits.{FitsId, FitsOperand}
 use Rattle.roundtrip.proofs.Sizes.{SmallOperand}
 use Rattle.roundtrip.proofs.Parts.{Without, count_empty, count_other, count_at, without_append, part_last, part_first, part_next}
-use Rattle.roundtrip.proofs.Digits.{enough, Digits, digits_are, digits_apart, length_digits, decimal_digits, clash}
+use Rattle.roundtrip.proofs.Digits.{enough, Digits, digits_are, digits_apart, length_digits, decimal_digits}
+use Rattle.roundtrip.proofs.Inverse.{bad_good}
 
 -- decimals in the rooms that the text form gives them
-pub five : (limit v : ℕ) → v < 100000 → v ≤ limit → decimal_of limit (digits_text 5 v) ≡ Value v
+pub five : (limit v : ℕ) → v < 100000 → v ≤ limit → decimal_of limit (digits_text 5 v) ≡ Some v
 five limit v h g = decimal_digits limit 5 v (enough 4 v h) g
 
-pub three : (v : ℕ) → v < 256 → decimal_of 255 (digits_text 3 v) ≡ Value v
+pub three : (v : ℕ) → v < 256 → decimal_of 255 (digits_text 3 v) ≡ Some v
 three v h = decimal_digits 255 3 v (enough 2 v (omega arith)) (omega arith)
 
-twenty : (v : ℕ) → v < 2 ^ 64 → decimal_of (2 ^ 64 - 1) (digits_text 20 v) ≡ Value v
+twenty : (v : ℕ) → v < 2 ^ 64 → decimal_of (2 ^ 64 - 1) (digits_text 20 v) ≡ Some v
 twenty v h = decimal_digits (2 ^ 64 - 1) 20 v (enough 19 v (omega arith)) (omega arith)
 
 made : ℤ → VarId
@@ -49,15 +36,15 @@ not_none n = ne_eqb (suc n) 0 (λ e. no e)
     no : suc n ≡ 0 → ⊥
     no e = omega (arith, e)
 
-id_plain : (s : List ℕ) (n : ℕ) → Digits s → decimal_of 32767 s ≡ Value n → id_of s ≡ ReadId.Good (record { 0 = pos n })
+id_plain : (s : List ℕ) (n : ℕ) → Digits s → decimal_of 32767 s ≡ Some n → id_of s ≡ Some (record { 0 = pos n })
 unfolding id_of decimal_of
-id_plain [] n d e = absurd (clash n e)
+id_plain [] n d e = absurd (bad_good n e)
 id_plain (x ∷ s) n d e = rw (not_none (length s), ne_eqb x 45 (λ q. no q), e)
   where
     no : x ≡ 45 → ⊥
     no q = omega (arith, d.0)
 
-id_minus : (s : List ℕ) (n : ℕ) → decimal_of 32768 s ≡ Value (n + 1) → id_of (45 ∷ s) ≡ ReadId.Good (record { 0 = negsuc n })
+id_minus : (s : List ℕ) (n : ℕ) → decimal_of 32768 s ≡ Some (n + 1) → id_of (45 ∷ s) ≡ Some (record { 0 = negsuc n })
 unfolding id_of
 id_minus s n e =
     let q : n + 1 - 1 ≡ n = omega arith in
@@ -67,7 +54,7 @@ id_minus s n e =
     no z = omega arith
 
 -- an id
-pub id_read : (z : ℤ) → FitsId z → id_of (id_text z) ≡ ReadId.Good (record { 0 = z })
+pub id_read : (z : ℤ) → FitsId z → id_of (id_text z) ≡ Some (record { 0 = z })
 unfolding id_text
 id_read (pos n) h = id_plain (digits_text 5 n) n (digits_are 5 n) (five 32767 n (omega arith) (omega arith))
 id_read (negsuc n) h = id_minus (digits_text 5 (n + 1)) n (five 32768 (n + 1) (omega arith) (omega arith))
@@ -96,13 +83,13 @@ id_length (pos n) = omega (arith, length_digits 5 n)
 id_length (negsuc n) = omega (arith, length_digits 5 (n + 1))
 
 -- a variable from its parts
-var_good : (s : List ℕ) (v : VarId) (o n : ℕ) → count_of 58 s ≡ 2 → id_of (part_of 58 s 0) ≡ ReadId.Good v → decimal_of 255 (part_of 58 s 1) ≡ Value o → decimal_of 255 (part_of 58 s 2) ≡ Value n →
-    var_of s ≡ ReadVar.Good (record { id = v; offset = o; size = n })
+var_good : (s : List ℕ) (v : VarId) (o n : ℕ) → count_of 58 s ≡ 2 → id_of (part_of 58 s 0) ≡ Some v → decimal_of 255 (part_of 58 s 1) ≡ Some o → decimal_of 255 (part_of 58 s 2) ≡ Some n →
+    var_of s ≡ Some (record { id = v; offset = o; size = n })
 unfolding var_of
 var_good s v o n c h k l = rw (eq-eqb (count_of 58 s) 2 c, h, k, l)
 
-const_good : (s : List ℕ) (v n : ℕ) → count_of 58 s ≡ 1 → decimal_of (2 ^ 64 - 1) (part_of 58 s 0) ≡ Value v → decimal_of 255 (part_of 58 s 1) ≡ Value n →
-    const_of s ≡ ReadOperand.Good (Const v n)
+const_good : (s : List ℕ) (v n : ℕ) → count_of 58 s ≡ 1 → decimal_of (2 ^ 64 - 1) (part_of 58 s 0) ≡ Some v → decimal_of 255 (part_of 58 s 1) ≡ Some n →
+    const_of s ≡ Some (Operand.Const v n)
 unfolding const_of
 const_good s v n c h k = rw (eq-eqb (count_of 58 s) 1 c, h, k)
 
@@ -123,7 +110,7 @@ module _ (x y z : List ℕ) (h : Without 58 x) (k : Without 58 y) (l : Without 5
   three_2 : part_of 58 joined 2 ≡ z
   three_2 = part_next 58 x h (y ++ 58 ∷ z) 1 ∙ part_next 58 y k z 0 ∙ part_last 58 z l
 
-var_read : (v : VarNode) → FitsId v.id.0 → v.offset < 256 → v.size < 256 → operand_of (var_text v) ≡ ReadOperand.Good (Var v)
+var_read : (v : VarNode) → FitsId v.id.0 → v.offset < 256 → v.size < 256 → operand_of (var_text v) ≡ Some (Operand.Var v)
 unfolding var_text operand_of
 var_read v f o n =
     let x = id_text v.id.0 in
@@ -133,14 +120,14 @@ var_read v f o n =
     let k = digits_apart 58 3 v.offset (inr (omega arith)) in
     let l = digits_apart 58 3 v.size (inr (omega arith)) in
     let s = x ++ 58 ∷ (y ++ 58 ∷ z) in
-    let e : var_of s ≡ ReadVar.Good v =
+    let e : var_of s ≡ Some v =
     var_good s v.id v.offset v.size (three_count x y z h k l)
     (ap id_of (three_0 x y z h k l) ∙ id_read v.id.0 f)
     (ap (decimal_of 255) (three_1 x y z h k l) ∙ three v.offset o)
     (ap (decimal_of 255) (three_2 x y z h k l) ∙ three v.size n) in
     rw (not_none (length s)) (ap as_var e)
 
-const_read : (v n : ℕ) → v < 2 ^ 64 → n < 256 → operand_of (const_text v n) ≡ ReadOperand.Good (Const v n)
+const_read : (v n : ℕ) → v < 2 ^ 64 → n < 256 → operand_of (const_text v n) ≡ Some (Operand.Const v n)
 unfolding const_text operand_of
 const_read v n f g =
     let x = digits_text 20 v in
@@ -148,38 +135,38 @@ const_read v n f g =
     let h = digits_apart 58 20 v (inr (omega arith)) in
     let k = digits_apart 58 3 n (inr (omega arith)) in
     let s = x ++ 58 ∷ y in
-    let e : const_of s ≡ ReadOperand.Good (Const v n) =
+    let e : const_of s ≡ Some (Operand.Const v n) =
     const_good s v n (count_at 58 y x h ∙ ap suc k)
     (ap (decimal_of (2 ^ 64 - 1)) (part_first 58 x h y) ∙ twenty v f)
     (ap (decimal_of 255) (part_next 58 x h y 0 ∙ part_last 58 y k) ∙ three n g) in
     rw (not_none (length s)) e
 
 -- an operand, and an output
-pub operand_read : (a : Operand) → FitsOperand a → SmallOperand a → operand_of (operand_text a) ≡ ReadOperand.Good a
+pub operand_read : (a : Operand) → FitsOperand a → SmallOperand a → operand_of (operand_text a) ≡ Some a
 unfolding operand_of
-operand_read None f g = refl
-operand_read (Const v n) f g = const_read v n f g
-operand_read (Var v) f g = var_read v f g.0 g.1
+operand_read Operand.None f g = refl
+operand_read (Operand.Const v n) f g = const_read v n f g
+operand_read (Operand.Var v) f g = var_read v f g.0 g.1
 
-pub output_read : (o : Output) → FitsOperand (as_operand o) → SmallOperand (as_operand o) → output_of (operand_text (as_operand o)) ≡ ReadOutput.Good o
-output_read Output.None f g = ap as_output (operand_read None f g)
-output_read (Output.Var v) f g = ap as_output (operand_read (Var v) f g)
+pub output_read : (o : Output) → FitsOperand (as_operand o) → SmallOperand (as_operand o) → output_of (operand_text (as_operand o)) ≡ Some o
+output_read Out.None f g = ap as_output (operand_read Operand.None f g)
+output_read (Out.Some v) f g = ap as_output (operand_read (Operand.Var v) f g)
 
 -- what stands in no operand, and an operand's length
 pub operand_apart : (b : ℕ) (a : Operand) → b < 45 → Without b (operand_text a)
 unfolding const_text var_text
-operand_apart b None h = count_other b 45 [] (λ e. no e) ∙ count_empty b
+operand_apart b Operand.None h = count_other b 45 [] (λ e. no e) ∙ count_empty b
   where
     no : 45 ≡ b → ⊥
     no e = omega arith
-operand_apart b (Const v n) h =
+operand_apart b (Operand.Const v n) h =
     count_other b 99 _ (λ e. no 99 (omega arith) e)
     ∙ without_append b (digits_text 20 v) (58 ∷ digits_text 3 n) (digits_apart b 20 v (inl (omega arith)))
     (count_other b 58 _ (λ e. no 58 (omega arith) e) ∙ digits_apart b 3 n (inl (omega arith)))
   where
     no : (x : ℕ) → 45 ≤ x → x ≡ b → ⊥
     no x g e = omega arith
-operand_apart b (Var v) h =
+operand_apart b (Operand.Var v) h =
     count_other b 118 _ (λ e. no 118 (omega arith) e)
     ∙ without_append b (id_text v.id.0) (58 ∷ (digits_text 3 v.offset ++ 58 ∷ digits_text 3 v.size)) (id_apart b v.id.0 (inl h))
     (count_other b 58 _ (λ e. no 58 (omega arith) e)
@@ -191,9 +178,9 @@ operand_apart b (Var v) h =
 
 pub operand_length : (a : Operand) → length (operand_text a) ≤ operand_room
 unfolding const_text var_text
-operand_length None = omega arith
-operand_length (Const v n) = omega (arith, length-append (digits_text 20 v) (58 ∷ digits_text 3 n), length_digits 20 v, length_digits 3 n)
-operand_length (Var v) =
+operand_length Operand.None = omega arith
+operand_length (Operand.Const v n) = omega (arith, length-append (digits_text 20 v) (58 ∷ digits_text 3 n), length_digits 20 v, length_digits 3 n)
+operand_length (Operand.Var v) =
     omega (
       arith,
       length-append (id_text v.id.0) (58 ∷ (digits_text 3 v.offset ++ 58 ∷ digits_text 3 v.size)),

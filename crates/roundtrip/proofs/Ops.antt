@@ -1,15 +1,6 @@
 -- Operations and codes: an operation is the one with its code and number, and the one with a code has that code.
-use Prim.Native.Nat.{ℕ, zero, suc, ◌+◌, ◌-◌, ◌<◌, ◌≤◌}
-use native.Mathlib.Omega.{arith}
-use native.Mathlib.Nat.{not-suc-le-zero, le_of_suc-le-suc, eq-or-lt_of_le}
-use mathlib.Core.Path.{◌≡◌, refl, sym, ap, subst, ◌∙◌}
-use mathlib.Core.Logic.{◌⊎◌, inl, inr}
-use mathlib.Core.Bool.{Bool, true, false}
-use borrow.Author.Tests.{eqb-true, leb-true}
-use lib.Dec.{eqb, ltb}
+use Rattle.std.proofs.Common.{Option, None, Some, ℕ, zero, suc, ◌+◌, ◌-◌, ◌<◌, ◌≤◌, arith, not-suc-le-zero, le_of_suc-le-suc, eq-or-lt_of_le, ◌≡◌, refl, sym, ap, subst, ◌∙◌, ◌⊎◌, inl, inr, Bool, true, false, eqb-true, leb-true, eqb, ltb}
 use Rattle.pcode.specs.Names.{code_of, number_of, op_of, takes_number}
-use Rattle.pcode.specs.declared.name.Number.{Number}
-use Rattle.pcode.specs.declared.name.Number.TheVariants.{None as NoNumber, Some as Numbered}
 use Rattle.pcode.specs.declared.op.OneOp.{OneOp}
 use Rattle.pcode.specs.declared.op.OneOp.TheVariants.{Copy, ZeroExtend, SignExtend, IntNot, IntNegate, IntCountOnes, IntCountLeadingZeroes, BoolNot}
 use Rattle.pcode.specs.declared.op.TwoOp.{TwoOp}
@@ -37,13 +28,13 @@ use Rattle.pcode.specs.declared.op.Op.TheVariants.{Trap, InstructionMarker, Pcod
 use Rattle.roundtrip.proofs.Names.{every, every_at}
 
 -- the number that is read for an operation: 0 where it has none
-abbrev pub value_in : Number → ℕ
-value_in NoNumber = 0
-value_in (Numbered n) = n
+abbrev pub value_in : Option ℕ → ℕ
+value_in None = 0
+value_in (Some n) = n
 
-abbrev pub has : Number → Bool
-has NoNumber = false
-has (Numbered n) = true
+abbrev pub has : Option ℕ → Bool
+has None = false
+has (Some n) = true
 
 -- an operation is the one with its code and number, and has a number just where its code takes one
 pub record Coded (op : Op) : Type 0 where
@@ -179,14 +170,11 @@ pub code_op : (k n : ℕ) → k < 72 → code_of (op_of k n) ≡ k
 code_op k n h = eqb-true _ _ (every_at 72 (λ (i : ℕ). eqb (code_of (op_of i n)) i) (own n) k h)
 
 -- and has the number given, where its code takes one
-none_of : (m : Number) → has m ≡ false → m ≡ NoNumber
-none_of NoNumber e = refl
-none_of (Numbered n) e = let z : ◌≡◌ {A = ℕ} 0 1 = cc in absurd (no z)
-  where
-    no : ◌≡◌ {A = ℕ} 0 1 → ⊥
-    no z = omega arith
+none_of : (m : Option ℕ) → has m ≡ false → m ≡ None
+none_of None e = refl
+none_of (Some n) e = cc
 
-pub number_none : (k n : ℕ) → k < 72 → takes_number k ≡ false → number_of (op_of k n) ≡ NoNumber
+pub number_none : (k n : ℕ) → k < 72 → takes_number k ≡ false → number_of (op_of k n) ≡ None
 number_none k n h e = none_of _ (sym (op_coded (op_of k n)).takes ∙ ap takes_number (code_op k n h) ∙ e)
 
 abbrev Each : ℕ → (ℕ → Type 0) → Type 0
@@ -201,12 +189,12 @@ each_at (suc n) P e k h = go (each_at n P e.1) (eq-or-lt_of_le (le_of_suc-le-suc
     go f (inl i) = subst P (sym i) e.0
     go f (inr i) = f k i
 
-numbered : (n : ℕ) → Each 13 (λ j. number_of (op_of (59 + j) n) ≡ Numbered n)
+numbered : (n : ℕ) → Each 13 (λ j. number_of (op_of (59 + j) n) ≡ Some n)
 unfolding op_of
 numbered n = (refl, (refl, (refl, (refl, (refl, (refl, (refl, (refl, (refl, (refl, (refl, (refl, (refl, tt)))))))))))))
 
-pub number_some : (k n : ℕ) → k < 72 → takes_number k ≡ true → number_of (op_of k n) ≡ Numbered n
+pub number_some : (k n : ℕ) → k < 72 → takes_number k ≡ true → number_of (op_of k n) ≡ Some n
 number_some k n h e =
     let g : 59 ≤ k = leb-true 59 k e in
     let q : 59 + (k - 59) ≡ k = omega arith in
-    subst (λ (i : ℕ). number_of (op_of i n) ≡ Numbered n) q (each_at 13 (λ (j : ℕ). number_of (op_of (59 + j) n) ≡ Numbered n) (numbered n) (k - 59) (omega arith))
+    subst (λ (i : ℕ). number_of (op_of i n) ≡ Some n) q (each_at 13 (λ (j : ℕ). number_of (op_of (59 + j) n) ≡ Some n) (numbered n) (k - 59) (omega arith))

@@ -1,12 +1,5 @@
 -- A list of bytes taken apart at a separator, and put together again.
-use Prim.Native.Nat.{ℕ, zero, suc, ◌+◌}
-use native.Mathlib.Omega.{arith}
-use mathlib.Core.Path.{◌≡◌, refl, sym, ap, ◌∙◌}
-use mathlib.Core.Bool.{Bool, true, false}
-use mathlib.Core.List.{List, [], ◌∷◌, ◌++◌}
-use borrow.Author.Tests.{eq-eqb, ne_eqb, eqb-true}
-use lib.Dec.{eqb}
-use lib.ListN.{length, take, drop}
+use Rattle.std.proofs.Common.{ℕ, zero, suc, ◌+◌, arith, ◌≡◌, refl, sym, ap, ◌∙◌, Bool, true, false, List, [], ◌∷◌, ◌++◌, eq-eqb, ne_eqb, eqb-true, eqb, length, take, drop}
 use lib.Seq.{take-append_seam, take-length}
 use Rattle.pcode.specs.Var.{pick}
 use Rattle.fields.specs.Parts.{place_of, head_of, tail_of, rest_of, part_of, count_of}

@@ -1,28 +1,17 @@
 -- A statement's line is read as the statement.
-use Prim.Native.Nat.{ℕ, ◌<◌, ◌≤◌}
-use native.Mathlib.Omega.{arith}
-use mathlib.Core.Path.{◌≡◌, ap, ◌∙◌}
-use mathlib.Core.Logic.{inl}
-use mathlib.Core.List.{List, [], ◌∷◌, ◌++◌}
-use borrow.Author.Tests.{le-ltb, lt-ltb, ltb-true}
-use lib.ListN.{length, length-append}
+use Rattle.std.proofs.Common.{Option, None, Some, ℕ, ◌<◌, ◌≤◌, arith, ◌≡◌, ap, ◌∙◌, inl, List, [], ◌∷◌, ◌++◌, le-ltb, lt-ltb, ltb-true, length, length-append}
 use Rattle.pcode.specs.Var.{as_operand}
 use Rattle.pcode.specs.Names.{name_of, code_of, number_of, op_of, takes_number}
 use Rattle.pcode.specs.Block.{stmt_of}
-use Rattle.pcode.specs.declared.name.Number.{Number}
-use Rattle.pcode.specs.declared.name.Number.TheVariants.{None as NoNumber, Some as Numbered}
 use Rattle.pcode.specs.declared.op.Op.{Op}
 use Rattle.pcode.specs.declared.var.Operand.{Operand}
-use Rattle.pcode.specs.declared.var.Output.{Output}
+use Rattle.pcode.specs.Var.{Output}
 use Rattle.pcode.specs.declared.block.Stmt.{Stmt}
 use Rattle.pcode.proofs.Names.{length_fits}
 use Rattle.fields.specs.Parts.{part_of, count_of}
 use Rattle.record.specs.Names.{code_named}
 use Rattle.record.specs.Operands.{operand_of, output_of}
 use Rattle.record.specs.Records.{number_in, statement_of, record_of}
-use Rattle.record.specs.declared.operand.ReadOperand.TheVariants as ReadOperand
-use Rattle.record.specs.declared.operand.ReadOutput.TheVariants as ReadOutput
-use Rattle.record.specs.declared.record.ReadNumber.TheVariants as ReadNumber
 use Rattle.record.specs.declared.record.Record.TheVariants.{Statement}
 use Rattle.print.specs.Rooms.{number_room, record_room}
 use Rattle.print.specs.Texts.{number_text, operand_text}
@@ -37,16 +26,16 @@ use Rattle.roundtrip.proofs.Ops.{value_in, has, op_coded}
 use Rattle.roundtrip.proofs.Operands.{five, operand_read, output_read, operand_apart, operand_length}
 
 -- what stands in no number field, and its length
-pub number_apart : (b : ℕ) (n : Number) → b < 45 → Without b (number_text n)
-number_apart b NoNumber h = count_other b 45 [] (λ e. no e) ∙ count_empty b
+pub number_apart : (b : ℕ) (n : Option ℕ) → b < 45 → Without b (number_text n)
+number_apart b None h = count_other b 45 [] (λ e. no e) ∙ count_empty b
   where
     no : 45 ≡ b → ⊥
     no e = omega arith
-number_apart b (Numbered n) h = digits_apart b 5 n (inl (omega arith))
+number_apart b (Some n) h = digits_apart b 5 n (inl (omega arith))
 
-number_length : (n : Number) → length (number_text n) ≤ number_room
-number_length NoNumber = omega arith
-number_length (Numbered n) = length_digits 5 n
+number_length : (n : Option ℕ) → length (number_text n) ≤ number_room
+number_length None = omega arith
+number_length (Some n) = length_digits 5 n
 
 -- a statement's line, without its LF
 unfoldable pub line_of : Stmt → List ℕ
@@ -98,15 +87,15 @@ pub record_length : (s : Stmt) → length (record_text s) ≤ record_room
 record_length s = omega (arith, ap length (record_line s), length-append (line_of s) (10 ∷ []), line_length s)
 
 -- the number field
-number_read : (code : ℕ) (n : Number) → takes_number code ≡ has n → FitsNumber n → number_in code (number_text n) ≡ ReadNumber.Good (value_in n)
+number_read : (code : ℕ) (n : Option ℕ) → takes_number code ≡ has n → FitsNumber n → number_in code (number_text n) ≡ Some (value_in n)
 unfolding number_in
-number_read code NoNumber e f = rw e
-number_read code (Numbered n) e f = rw (e, five 65535 n (omega arith) (omega arith))
+number_read code None e f = rw e
+number_read code (Some n) e f = rw (e, five 65535 n (omega arith) (omega arith))
 
 -- a statement from its fields
-statement_good : (line : List ℕ) (k n : ℕ) (o : Output) (a b : Operand) → code_named (part_of 9 line 0) ≡ k → k < 72 → number_in k (part_of 9 line 1) ≡ ReadNumber.Good n →
-    output_of (part_of 9 line 2) ≡ ReadOutput.Good o → operand_of (part_of 9 line 3) ≡ ReadOperand.Good a → operand_of (part_of 9 line 4) ≡ ReadOperand.Good b →
-    statement_of line ≡ Statement (stmt_of (op_of k n) o a b)
+statement_good : (line : List ℕ) (k n : ℕ) (o : Output) (a b : Operand) → code_named (part_of 9 line 0) ≡ k → k < 72 → number_in k (part_of 9 line 1) ≡ Some n →
+    output_of (part_of 9 line 2) ≡ Some o → operand_of (part_of 9 line 3) ≡ Some a → operand_of (part_of 9 line 4) ≡ Some b →
+    statement_of line ≡ Some (Statement (stmt_of (op_of k n) o a b))
 unfolding statement_of
 statement_good line k n o a b c h d e f g = rw (c, lt-ltb k 72 h, d, e, f, g)
 
@@ -128,7 +117,7 @@ module _ (s : Stmt) (f : Fits s) (g : Small s) where
     second = operand_apart 9 s.second (omega arith);
   }
 
-  fields_read : statement_of (line_of s) ≡ Statement (stmt_of (op_of k (value_in (number_of s.op))) s.output s.first s.second)
+  fields_read : statement_of (line_of s) ≡ Some (Statement (stmt_of (op_of k (value_in (number_of s.op))) s.output s.first s.second))
   unfolding line_of
   fields_read =
       let c = op_coded s.op in
@@ -140,8 +129,8 @@ module _ (s : Stmt) (f : Fits s) (g : Small s) where
       (ap operand_of (five_3 (u s) (v s) (x s) (y s) (z s) tabless) ∙ operand_read s.first f.first g.first)
       (ap operand_of (five_4 (u s) (v s) (x s) (y s) (z s) tabless) ∙ operand_read s.second f.second g.second)
 
-  pub line_read : record_of (line_of s) ≡ Statement s
+  pub line_read : record_of (line_of s) ≡ Some (Statement s)
   unfolding line_of
   line_read =
       record_good (line_of s) (omega (arith, line_length s)) (five_count (u s) (v s) (x s) (y s) (z s) tabless) ∙ fields_read
-      ∙ ap (λ (op : Op). Statement (stmt_of op s.output s.first s.second)) (op_coded s.op).same
+      ∙ ap (λ (op : Op). Some (Statement (stmt_of op s.output s.first s.second))) (op_coded s.op).same

@@ -1,34 +1,24 @@
 -- What the checks tell of a statement's sizes and offsets: each fits a byte.
-use Prim.Native.Nat.{ℕ, ◌+◌, ◌<◌, ◌≤◌}
-use native.Mathlib.Omega.{arith}
-use mathlib.Core.Path.{◌≡◌, refl}
-use mathlib.Core.Bool.{true, false}
-use mathlib.Core.List.{List, [], ◌∷◌}
-use borrow.Author.Tests.{leb-true, ltb-false}
-use lib.Dec.{eqb, leb, ltb}
-use lib.ListN.{length, length-take}
+use Rattle.std.proofs.Common.{Result, Ok, Err, ℕ, ◌+◌, ◌<◌, ◌≤◌, arith, ◌≡◌, refl, true, false, List, [], ◌∷◌, leb-true, ltb-false, eqb, leb, ltb, length, length-take}
 use Rattle.pcode.specs.Var.{zero_id, as_operand}
 use Rattle.pcode.specs.Block.{held}
 use Rattle.pcode.specs.declared.var.VarNode.{VarNode}
 use Rattle.pcode.specs.declared.var.Operand.{Operand}
-use Rattle.pcode.specs.declared.var.Operand.TheVariants.{None, Const, Var}
 use Rattle.pcode.specs.declared.block.Stmt.{Stmt}
 use Rattle.pcode.specs.declared.block.Block.{Block}
 use Rattle.pcode.specs.declared.block.Limits.{Limits}
 use Rattle.pcode.specs.declared.refusal.Refusal.{Refusal}
 use Rattle.pcode.specs.declared.refusal.Refusal.TheVariants.{TooManyStatements, BadVariable}
 use Rattle.text.specs.Reading.{room_of}
-use Rattle.text.specs.declared.answer.Answer.{Answer}
-use Rattle.text.specs.declared.answer.Answer.TheVariants.{Ok, Refused}
 use Rattle.checks.specs.Statements.{good_size, good_node, good_operand, good_parts, stmt_check, else_then, checks_from}
 use Rattle.checks.specs.Checks.{check_of}
 use Rattle.roundtrip.proofs.Inverse.{passed, not_bad}
 
 -- an operand's offset and size fit a byte
 abbrev pub SmallOperand : Operand → Type 0
-SmallOperand None = Unit {0}
-SmallOperand (Const v n) = n < 256
-SmallOperand (Var v) = (v.offset < 256) × (v.size < 256)
+SmallOperand Operand.None = Unit {0}
+SmallOperand (Operand.Const v n) = n < 256
+SmallOperand (Operand.Var v) = (v.offset < 256) × (v.size < 256)
 
 pub record Small (s : Stmt) : Type 0 where
   pub output : SmallOperand (as_operand s.output)
@@ -40,7 +30,7 @@ SmallAll [] = Unit {0}
 SmallAll (s ∷ ss) = Small s × SmallAll ss
 
 no_true : false ≡ true → ⊥
-no_true e = let z : ◌≡◌ {A = ℕ} 0 1 = cc in omega arith
+no_true e = cc
 
 size_small : (n : ℕ) → good_size n ≡ true → n < 256
 unfolding good_size
@@ -55,9 +45,9 @@ node_small v e =
     (omega arith, omega arith)
 
 operand_small : (a : Operand) → good_operand a ≡ true → SmallOperand a
-operand_small None e = tt
-operand_small (Const v n) e = size_small n e
-operand_small (Var v) e = node_small v e
+operand_small Operand.None e = tt
+operand_small (Operand.Const v n) e = size_small n e
+operand_small (Operand.Var v) e = node_small v e
 
 parts_small : (s : Stmt) → good_parts s ≡ true → Small s
 unfolding good_parts
@@ -70,36 +60,36 @@ parts_small s e =
       second = operand_small s.second q.1;
     }
 
-no_ok : (why : Refusal) → Refused why ≡ Ok → ⊥
-no_ok why e = let z : ◌≡◌ {A = ℕ} 0 1 = cc in omega arith
+no_ok : (why : Refusal) → ◌≡◌ {A = Result (Unit {0}) Refusal} (Err why) (Ok tt) → ⊥
+no_ok why e = cc
 
-stmt_small : (i : ℕ) (s : Stmt) → stmt_check i s ≡ Ok → Small s
+stmt_small : (i : ℕ) (s : Stmt) → stmt_check i s ≡ Ok tt → Small s
 unfolding stmt_check
-stmt_small i s e = parts_small s (passed (Refused (BadVariable i)) Ok (no_ok (BadVariable i)) (good_parts s) _ e).0
+stmt_small i s e = parts_small s (passed (Err (BadVariable i)) (Ok tt) (no_ok (BadVariable i)) (good_parts s) _ e).0
 
 -- the first of two answers, and the other one
-both : (a b : Answer) → else_then a b ≡ Ok → (a ≡ Ok) × (b ≡ Ok)
-both Ok b e = (refl, e)
-both (Refused why) b e = absurd (no_ok why e)
+both : (a b : Result (Unit {0}) Refusal) → else_then a b ≡ Ok tt → (a ≡ Ok tt) × (b ≡ Ok tt)
+both (Ok t) b e = (refl, e)
+both (Err why) b e = absurd (no_ok why e)
 
-all_small : (i : ℕ) (ss : List Stmt) → checks_from i ss ≡ Ok → SmallAll ss
+all_small : (i : ℕ) (ss : List Stmt) → checks_from i ss ≡ Ok tt → SmallAll ss
 unfolding checks_from
 all_small i [] e = tt
 all_small i (s ∷ ss) e = let p = both (stmt_check i s) (checks_from (i + 1) ss) e in (stmt_small i s p.0, all_small (i + 1) ss p.1)
 
 -- a block that passes the checks: its sizes fit, and it has no more statements than are read
-module _ (limits : Limits) (b : Block) (e : check_of limits b ≡ Ok) where
-  abbrev refusal : Answer
-  refusal = Refused (TooManyStatements (room_of limits.stmts))
+module _ (limits : Limits) (b : Block) (e : check_of limits b ≡ Ok tt) where
+  abbrev refusal : Result (Unit {0}) Refusal
+  refusal = Err (TooManyStatements (room_of limits.stmts))
 
   pub checked_small : SmallAll (held b)
   unfolding check_of
   checked_small =
-      let p = not_bad refusal Ok (no_ok _) (ltb (room_of limits.stmts) b.count) _ e in
+      let p = not_bad refusal (Ok tt) (no_ok _) (ltb (room_of limits.stmts) b.count) _ e in
       all_small 0 (held b) (both (checks_from 0 (held b)) _ p.1).0
 
   pub checked_count : length (held b) ≤ room_of limits.stmts
   unfolding check_of
   checked_count =
-      let p = not_bad refusal Ok (no_ok _) (ltb (room_of limits.stmts) b.count) _ e in
+      let p = not_bad refusal (Ok tt) (no_ok _) (ltb (room_of limits.stmts) b.count) _ e in
       omega (arith, length-take b.count b.stmts, ltb-false (room_of limits.stmts) b.count p.0)

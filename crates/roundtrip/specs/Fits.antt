@@ -1,12 +1,9 @@
 -- What the checks leave to the types: constants, ids and numbers fit the types that hold them.
-use Rattle.std.specs.Prelude.{◌<◌, ◌^◌, List, [], ◌∷◌, ℤ, pos, negsuc}
+use Rattle.std.specs.Prelude.{◌<◌, ◌^◌, List, [], ◌∷◌, Option, None, Some, ℕ, ℤ, pos, negsuc}
 use Rattle.pcode.specs.Var.{as_operand}
 use Rattle.pcode.specs.Names.{number_of}
-use Rattle.pcode.specs.declared.name.Number.{Number}
-use Rattle.pcode.specs.declared.name.Number.TheVariants.{None as NoNumber, Some as Numbered}
 use Rattle.pcode.specs.declared.var.VarId.{VarId}
 use Rattle.pcode.specs.declared.var.Operand.{Operand}
-use Rattle.pcode.specs.declared.var.Operand.TheVariants.{None, Const, Var}
 use Rattle.pcode.specs.declared.block.Stmt.{Stmt}
 
 -- an id fits 16 bits, signed
@@ -16,14 +13,14 @@ FitsId (negsuc n) = n < 32768
 
 -- a constant is below 2^64
 abbrev pub FitsOperand : Operand → Type 0
-FitsOperand None = Unit {0}
-FitsOperand (Const v n) = v < 2 ^ 64
-FitsOperand (Var v) = FitsId v.id.0
+FitsOperand Operand.None = Unit {0}
+FitsOperand (Operand.Const v n) = v < 2 ^ 64
+FitsOperand (Operand.Var v) = FitsId v.id.0
 
 -- an operation's number is at most 65,535
-abbrev pub FitsNumber : Number → Type 0
-FitsNumber NoNumber = Unit {0}
-FitsNumber (Numbered n) = n < 65536
+abbrev pub FitsNumber : Option ℕ → Type 0
+FitsNumber None = Unit {0}
+FitsNumber (Some n) = n < 65536
 
 -- a statement whose values fit their types
 pub record Fits (s : Stmt) : Type 0 where

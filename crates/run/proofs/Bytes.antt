@@ -1,14 +1,8 @@
 -- A machine state keeps its shape: 112 rows of 16 bytes, whatever is written.
-use Prim.Native.Nat.{ℕ, zero, suc, ◌+◌, ◌-◌, ◌/◌, ◌<◌, ◌≤◌}
-use native.Mathlib.Omega.{arith}
-use native.Mathlib.Nat.{mod-lt}
-use mathlib.Core.Path.{◌≡◌, refl, sym, ap, ◌∙◌, subst}
-use mathlib.Core.Bool.{Bool, true, false}
-use mathlib.Core.List.{List, [], ◌∷◌, ◌++◌, append_assoc}
-use lib.Dec.{eqb, ltb, lit<}
-use lib.ListN.{length, take, drop, get_or, set, length-set, get_or-append}
-use lib.Seq.{paste, length-paste, length-take-le, get_or-take, get_or-drop, get_or-append-add, get_or-set_same, get_or-set_other}
-use borrow.Author.Tests.{ltb-true, ltb-false, eqb-true, eqb-false}
+use Rattle.std.proofs.Common.{ℕ, zero, suc, ◌+◌, ◌-◌, ◌/◌, ◌<◌, ◌≤◌, arith, mod-lt, ◌≡◌, refl, sym, ap, ◌∙◌, subst, Bool, true, false, List, [], ◌∷◌, ◌++◌, append_assoc, eqb, ltb, lit<, length, take, drop, get_or, set, length-set, length-take-le, get_or-take, get_or-drop, get_or-append-add, get_or-set_same, get_or-set_other, ltb-true, ltb-false, eqb-true}
+use lib.ListN.{get_or-append}
+use lib.Seq.{paste, length-paste}
+use borrow.Author.Tests.{eqb-false}
 use mir.Syntax.{w8}
 use mir.Val.{Val}
 use denote.Array.{Array, each}
@@ -17,8 +11,8 @@ use denote.Laws.{Is}
 use denote.Shadow.{shadow}
 use Rattle.pcode.specs.Var.{pick}
 use Rattle.pcode.specs.declared.var.VarId.{VarId}
-use Rattle.pcode.specs.declared.var.Output.{Output}
-use Rattle.pcode.specs.declared.var.Output.TheVariants as Out
+use Rattle.pcode.specs.Var.{Output}
+use Rattle.std.specs.declared.option.Option.TheVariants as Out
 use Rattle.pcode.specs.declared.block.Stmt.{Stmt}
 use Rattle.vars.specs.Vars.{row_of}
 use Rattle.vars.proofs.Rows.{row_below, ways}
@@ -156,7 +150,7 @@ module _ (rows : List (List ℕ)) (row offset size v : ℕ) (s : Shape rows) (h 
 
 pub written_shape : (ids : List VarId) (rows : List (List ℕ)) (o : Output) (v : ℕ) → Shape rows → HeldOutput ids o → Shape (written ids rows o v)
 written_shape ids rows Out.None v s h = s
-written_shape ids rows (Out.Var o) v s h = write_shape rows (row_of ids o.id) o.offset o.size v s (let b = row_below ids o.id h.named in let l = h.room in omega arith) h.inside
+written_shape ids rows (Out.Some o) v s h = write_shape rows (row_of ids o.id) o.offset o.size v s (let b = row_below ids o.id h.named in let l = h.room in omega arith) h.inside
 
 -- so it keeps it from statement to statement
 pub after_shape : (ids : List VarId) (answers : List ℕ) (n : ℕ) (rows : List (List ℕ)) (s : Stmt) (act : Act) → Shape rows → HeldOutput ids s.output → Shape (rows_after ids answers n rows s act)

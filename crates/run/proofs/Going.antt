@@ -1,27 +1,19 @@
 -- A run under way: the events so far are in the trace, and with those of the rest they are the whole run's.
-use Prim.Native.Nat.{ℕ, ◌+◌, ◌*◌, ◌<◌, ◌≤◌}
-use native.Mathlib.Omega.{arith}
-use native.Mathlib.Numerals.{add-one}
-use mathlib.Core.Path.{◌≡◌, refl, sym, ap, ◌∙◌, subst}
-use mathlib.Core.List.{List, [], ◌∷◌, ◌++◌, append_assoc}
-use lib.ListN.{length, take, drop, get_or, drop_of_length-le}
-use lib.Seq.{drop-cons, get_or-take, length-take-le}
+use Rattle.std.proofs.Common.{ℕ, ◌+◌, ◌*◌, ◌<◌, ◌≤◌, arith, add-one, ◌≡◌, refl, sym, ap, ◌∙◌, subst, List, [], ◌∷◌, ◌++◌, append_assoc, length, drop, get_or, drop_of_length-le, drop-cons, None, Some}
 use Rattle.pcode.specs.Block.{blank_stmt}
 use Rattle.pcode.specs.declared.var.VarId.{VarId}
 use Rattle.pcode.specs.declared.var.PcodeLabel.{PcodeLabel as Label}
 use Rattle.pcode.specs.declared.block.Stmt.{Stmt}
 use Rattle.pcode.specs.declared.block.Marks.{Marks}
-use Rattle.machine.specs.Values.{value_in, HeldOutput, ReadyOut}
+use Rattle.machine.specs.Values.{value_in, HeldOutput}
 use Rattle.print.specs.Texts.{Wrote, written}
 use Rattle.print.proofs.Writes.{then, retold, none}
 use Rattle.step.specs.Events.{Event, Ended, rows_in, end_rows}
-use Rattle.step.specs.Steps.{Machine, Step, act_of, events_of, flow_of, rows_after, loads_after, step_of}
+use Rattle.step.specs.Steps.{Machine, Step, Flow, act_of, events_of, flow_of, rows_after, loads_after, step_of}
 use Rattle.step.specs.declared.Act.{Act}
-use Rattle.step.specs.declared.Flow.{Flow}
-use Rattle.step.specs.declared.Flow.TheVariants.{Next, Jump}
 use Rattle.trace.specs.Words.{trace_words, state_words}
 use Rattle.trace.proofs.Words.{no_words, words_append, end_words}
-use Rattle.run.specs.Run.{arrived, run_from, start_of, Shape, Runnable}
+use Rattle.run.specs.Run.{arrived, run_from, start_of, Shape}
 use Rattle.run.proofs.Bytes.{after_shape}
 
 -- what a run is over
@@ -36,16 +28,11 @@ pub record Given : Type 0 where
 abbrev pub given_of : Marks → List VarId → List ℕ → List Stmt → List (List ℕ) → List ℕ → Given
 given_of marks ids answers block start trace = record { marks = marks; ids = ids; answers = answers; block = block; start = start; trace = trace }
 
--- the statement at a place may be run
-pub ready_at : (ids : List VarId) (stmts : List Stmt) (n i : ℕ) (rows : List (List ℕ)) → n ≤ length stmts → i < n → Runnable ids (take n stmts) → Shape rows → ReadyOut ids rows (get_or stmts i blank_stmt)
-ready_at ids stmts n i rows m h r s =
-    subst (λ (x : Stmt). ReadyOut ids rows x) (get_or-take n stmts i blank_stmt h) (r i (let e = length-take-le n stmts m in omega arith) rows s.bytes)
-
 abbrev pub machine : List (List ℕ) → ℕ → Machine
 machine rows loads = record { rows = rows; loads = loads }
 
 abbrev pub whole : Given → List Event
-whole g = run_from g.ids g.answers g.block Next (start_of g.start)
+whole g = run_from g.ids g.answers g.block None (start_of g.start)
 
 pub record Going (g : Given) (i : ℕ) (flow : Flow) (rows : List (List ℕ)) (loads : ℕ) (new : List ℕ) (at : ℕ) : Type 0 where
   pub past : List Event
@@ -54,7 +41,7 @@ pub record Going (g : Given) (i : ℕ) (flow : Flow) (rows : List (List ℕ)) (l
   pub few : loads ≤ i
   pub shape : Shape rows
 
-pub going_none : (g : Given) → Shape g.start → Going g 0 Next g.start 0 g.trace 0
+pub going_none : (g : Given) → Shape g.start → Going g 0 None g.start 0 g.trace 0
 going_none g s =
     record { past = []; wrote = retold (no_words g.marks g.ids) (omega arith) (none g.trace 0); rest = refl; few = omega arith; shape = s }
 
@@ -68,11 +55,11 @@ loads_more n i (Act.Stores k) h = omega arith
 loads_more n i Act.Computes h = omega arith
 
 module _ (ids : List VarId) (answers : List ℕ) (block : List Stmt) (i : ℕ) (h : i < length block) (m : Machine) where
-  one_step : run_from ids answers (drop i block) Next m ≡ (step_of ids answers m (get_or block i blank_stmt)).events ++ run_from ids answers (drop (i + 1) block) (step_of ids answers m (get_or block i blank_stmt)).flow (step_of ids answers m (get_or block i blank_stmt)).machine
+  one_step : run_from ids answers (drop i block) None m ≡ (step_of ids answers m (get_or block i blank_stmt)).events ++ run_from ids answers (drop (i + 1) block) (step_of ids answers m (get_or block i blank_stmt)).flow (step_of ids answers m (get_or block i blank_stmt)).machine
   unfolding run_from
   one_step = rw (add-one i, drop-cons block i blank_stmt h)
 
-  one_passed : (l : Label) → run_from ids answers (drop i block) (Jump l) m ≡ run_from ids answers (drop (i + 1) block) (arrived l (get_or block i blank_stmt).op) m
+  one_passed : (l : Label) → run_from ids answers (drop i block) (Some l) m ≡ run_from ids answers (drop (i + 1) block) (arrived l (get_or block i blank_stmt).op) m
   unfolding run_from
   one_passed l = rw (add-one i, drop-cons block i blank_stmt h)
 
@@ -85,7 +72,7 @@ told ids answers rows after loads taken onward s act a b ec ea eb er el en = rw 
 
 module _ (g : Given) (i : ℕ) (h : i < length g.block) where
   -- a jump passes over a statement, or ends at it
-  pub going_past : {flow onward : Flow} {rows : List (List ℕ)} {loads at : ℕ} {new : List ℕ} (s : Stmt) (l : Label) → s ≡ get_or g.block i blank_stmt → flow ≡ Jump l → onward ≡ arrived l s.op
+  pub going_past : {flow onward : Flow} {rows : List (List ℕ)} {loads at : ℕ} {new : List ℕ} (s : Stmt) (l : Label) → s ≡ get_or g.block i blank_stmt → flow ≡ Some l → onward ≡ arrived l s.op
       → Going g i flow rows loads new at → Going g (i + 1) onward rows loads new at
   going_past {flow} {onward} {rows} {loads} {at} {new} s l es ef en o =
       record {
@@ -102,7 +89,7 @@ module _ (g : Given) (i : ℕ) (h : i < length g.block) where
 
   -- a statement is run
   pub going_on : {flow onward : Flow} {rows after : List (List ℕ)} {loads taken at p : ℕ} {new newer : List ℕ} (s : Stmt) (act : Act) (a b : ℕ)
-      → 230 * i + 230 ≤ length g.trace → HeldOutput g.ids s.output → s ≡ get_or g.block i blank_stmt → flow ≡ Next → act ≡ act_of s.op
+      → 230 * i + 230 ≤ length g.trace → HeldOutput g.ids s.output → s ≡ get_or g.block i blank_stmt → flow ≡ None → act ≡ act_of s.op
       → a ≡ value_in g.ids rows s.first → b ≡ value_in g.ids rows s.second
       → after ≡ rows_after g.ids g.answers loads rows s act → taken ≡ loads_after loads act → onward ≡ flow_of act a
       → Wrote 230 new at (trace_words g.marks g.ids (events_of rows act a b)) newer p

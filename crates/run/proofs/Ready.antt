@@ -1,23 +1,18 @@
 -- A checked block may be run: each statement meets what its step asks, at every state.
-use Prim.Native.Nat.{ℕ, ◌*◌, ◌≤◌}
-use mathlib.Core.Path.{◌≡◌, refl, ap, subst}
-use mathlib.Core.Bool.{Bool, true, false, ◌||◌}
-use mathlib.Core.List.{List}
-use lib.ListN.{length, get_or}
+use Rattle.std.proofs.Common.{ℕ, ◌*◌, ◌≤◌, ◌≡◌, refl, ap, subst, Bool, true, false, ◌||◌, List, length, get_or, Ok}
 use Rattle.pcode.specs.Var.{size_of, size_out, as_operand}
 use Rattle.pcode.specs.Rules.{meets, output_need, first_need}
 use Rattle.pcode.specs.Block.{held, has_id, blank_stmt, second_limits}
 use Rattle.pcode.specs.declared.var.VarId.{VarId}
 use Rattle.pcode.specs.declared.var.Operand.{Operand}
 use Rattle.pcode.specs.declared.var.Operand.TheVariants.{None, Const, Var}
-use Rattle.pcode.specs.declared.var.Output.{Output}
-use Rattle.pcode.specs.declared.var.Output.TheVariants as Out
+use Rattle.pcode.specs.Var.{Output}
+use Rattle.std.specs.declared.option.Option.TheVariants as Out
 use Rattle.pcode.specs.declared.block.Stmt.{Stmt}
 use Rattle.pcode.specs.declared.block.Block.{Block}
 use Rattle.pcode.proofs.Ids.{same_id_refl}
 use Rattle.vars.specs.Vars.{ids_in, ids_of, vars_of}
 use Rattle.vars.proofs.Rows.{named_has}
-use Rattle.text.specs.declared.answer.Answer.TheVariants.{Ok}
 use Rattle.checks.specs.Statements.{good_operand, there, good_parts, met_needs, good_sizes}
 use Rattle.checks.specs.Checks.{check_of}
 use Rattle.checks.proofs.Passing.{Good, passing}
@@ -30,7 +25,7 @@ use Rattle.run.specs.Run.{Runnable}
 -- the size of an output is its operand's
 out_size : (o : Output) → size_of (as_operand o) ≡ size_out o
 out_size Out.None = refl
-out_size (Out.Var v) = refl
+out_size (Out.Some v) = refl
 
 -- an operand in range whose ids a table has is held
 held_operand : (ids : List VarId) → length ids ≤ 112 → (a : Operand) → ((id : VarId) → has_id (ids_in a) id ≡ true → has_id ids id ≡ true) → good_operand a ≡ true → HeldOperand ids a
@@ -41,7 +36,7 @@ held_operand ids m (Var v) h g = record { named = h v.id (ap (λ (t : Bool). t |
 
 held_output : (ids : List VarId) (o : Output) → HeldOperand ids (as_operand o) → HeldOutput ids o
 held_output ids Out.None h = tt
-held_output ids (Out.Var v) h = h
+held_output ids (Out.Some v) h = h
 
 -- a good statement whose ids a table has may be run at every state
 pub ready : (ids : List VarId) → length ids ≤ 112 → (s : Stmt) → ((id : VarId) → has_id (ids_of s) id ≡ true → has_id ids id ≡ true) → Good s → (rows : List (List ℕ)) → Bytes rows → ReadyOut ids rows s
@@ -67,7 +62,7 @@ ready ids m s h g rows b =
     }
 
 -- so a block that passes the checks may be run
-pub runnable : (b : Block) → check_of second_limits b ≡ Ok → Runnable (vars_of (held b)) (held b)
+pub runnable : (b : Block) → check_of second_limits b ≡ Ok tt → Runnable (vars_of (held b)) (held b)
 runnable b e i h rows w =
     let p = passing second_limits b e in
     ready (vars_of (held b)) p.vars (get_or (held b) i blank_stmt) (λ id k. named_has (held b) i blank_stmt id h k) (p.each i h) rows w

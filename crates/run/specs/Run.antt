@@ -1,5 +1,5 @@
 -- The run of a block: statement by statement, forward, a jump passing over everything up to its label.
-use Rattle.std.specs.Prelude.{ℕ, ◌<◌, ◌≡◌, List, [], ◌∷◌, ◌++◌, length, get_or}
+use Rattle.std.specs.Prelude.{ℕ, ◌<◌, ◌≡◌, List, [], ◌∷◌, ◌++◌, None, Some, length, get_or}
 use Rattle.pcode.specs.Var.{pick}
 use Rattle.pcode.specs.Block.{blank_stmt}
 use Rattle.pcode.specs.declared.var.VarId.{VarId}
@@ -10,20 +10,18 @@ use Rattle.vars.specs.Vars.{vars_of}
 use Rattle.checks.specs.Labels.{is_label}
 use Rattle.machine.specs.Values.{Bytes, ReadyOut}
 use Rattle.step.specs.Events.{Event, Ended}
-use Rattle.step.specs.Steps.{Machine, step_of}
-use Rattle.step.specs.declared.Flow.{Flow}
-use Rattle.step.specs.declared.Flow.TheVariants.{Next, Jump}
+use Rattle.step.specs.Steps.{Machine, Flow, step_of}
 
 -- a jump ends where its label stands
 abbrev pub arrived : Label → Op → Flow
-arrived l op = pick (is_label op l) Next (Jump l)
+arrived l op = pick (is_label op l) None (Some l)
 
 -- the events of a run over the rest of a block, from the machine that it meets
 unfoldable pub run_from : List VarId → List ℕ → List Stmt → Flow → Machine → List Event
 run_from ids answers [] flow m = Ended m.rows ∷ []
-run_from ids answers (s ∷ ss) Next m =
+run_from ids answers (s ∷ ss) None m =
     (step_of ids answers m s).events ++ run_from ids answers ss (step_of ids answers m s).flow (step_of ids answers m s).machine
-run_from ids answers (s ∷ ss) (Jump l) m = run_from ids answers ss (arrived l s.op) m
+run_from ids answers (s ∷ ss) (Some l) m = run_from ids answers ss (arrived l s.op) m
 
 -- a machine before its first load
 abbrev pub start_of : List (List ℕ) → Machine
@@ -31,7 +29,7 @@ start_of rows = record { rows = rows; loads = 0 }
 
 -- the events of a block's run from rows in the order of first naming
 unfoldable pub run_of : List ℕ → List Stmt → List (List ℕ) → List Event
-run_of answers block rows = run_from (vars_of block) answers block Next (start_of rows)
+run_of answers block rows = run_from (vars_of block) answers block None (start_of rows)
 
 -- a machine state: 112 rows of 16 bytes
 pub record Shape (rows : List (List ℕ)) : Type 0 where

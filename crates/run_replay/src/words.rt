@@ -1,178 +1,118 @@
-// A recorded case's texts as a run's input and as the words of a trace.
-ghost use Rattle.std.specs.Prelude.{◌≤◌, ◌<◌, ◌+◌, length};
+// A recorded case's texts as input and as the words of a trace.
+ghost use Rattle.std.specs.Prelude.{◌≤◌};
 
 use crate::hex;
-use fields::decimal::{Parsed, decimal};
-use fields::part::part;
-use record::operand::ReadId;
+use fields::decimal::decimal;
+use fields::part::{head, part};
 use vars::Vars;
 
-// One word more, as far as there is room.
-fn put(row: &mut [u64], n: usize, x: u64) -> usize
-    requires { n ≤ length row.old }
-    ensures { result ≤ length row.old }
-{
-    if row.len() <= n {
-        return n;
-    }
-    row[n] = x;
-    n + 1
-}
-
-// The number in the 16 bytes from byte `k` on, as two words.
-fn put_number(row: &mut [u64], n: usize, s: &[u8], k: usize) -> usize
-    requires { (n ≤ length row.old) × (k ≤ 4194304) }
-    ensures { result ≤ length row.old }
-{
-    let a = put(row, n, hex::half(s, k));
-    put(row, a, hex::half(s, k + 8))
-}
-
-// Rows of 16 bytes, two words each, at most 112.
-fn put_rows(row: &mut [u64], n: usize, s: &[u8]) -> usize
-    requires { n ≤ length row.old }
-    ensures { result ≤ length row.old }
-{
-    let rows = s.len() / 32;
-    let mut at = n;
-    let mut i: usize = 0;
-    while i < 112 {
-        if rows <= i {
-            return at;
-        }
-        at = put_number(row, at, s, 16 * i);
-        i += 1;
-    }
-    at
-}
-
+// The number of a field; past every number where it has none.
 pub fn number(s: &[u8]) -> u64 {
-    match decimal(s, 65535) {
-        Parsed::Bad => 65536,
-        Parsed::Value(v) => v,
-    }
+    decimal(s, 65535).unwrap_or(65536)
 }
 
 // The kind of the event that a line names.
 fn kind(line: &[u8]) -> u64 {
-    if line.len() < 2 {
-        return 0;
+    match line {
+        [] | [_] => 0,
+        [b'l', ..] => 1,
+        [b's', ..] => 2,
+        [b'm', ..] => 4,
+        [_, b'x', ..] => 3,
+        _ => 5,
     }
-    if line[0] == b'l' {
-        return 1;
-    }
-    if line[0] == b's' {
-        return 2;
-    }
-    if line[0] == b'm' {
-        return 4;
-    }
-    if line[1] == b'x' {
-        return 3;
-    }
-    5
 }
 
-// The number and the operands' values of a load, a store or an exit.
-fn access(line: &[u8], row: &mut [u64], n: usize) -> usize
-    requires { n ≤ length row.old }
-    ensures { result ≤ length row.old }
-{
-    let a = put(row, n, number(part(line, b'\t', 1)));
-    let b = put_number(row, a, part(line, b'\t', 2), 0);
-    put_number(row, b, part(line, b'\t', 3), 0)
+// Words put into lent room, as far as there is room.
+#[derive(Drop)]
+struct Words<'a> {
+    room: &'a mut [u64],
+    count: usize,
 }
 
-// One line's words.
-fn event(line: &[u8], row: &mut [u64], n: usize) -> usize
-    requires { n ≤ length row.old }
-    ensures { result ≤ length row.old }
-{
-    let k = kind(line);
-    let a = put(row, n, k);
-    if 3 < k {
-        let b = put(row, a, 0);
-        return put_rows(row, b, part(line, b'\t', 1));
-    }
-    let c = access(line, row, a);
-    if k < 3 {
-        return c;
-    }
-    put_rows(row, c, part(line, b'\t', 4))
-}
-
-// The end of the line that starts at `at`.
-fn line_end(text: &[u8], at: usize) -> usize
-    requires { at < length text.now }
-    ensures { (at ≤ result) × (result ≤ length text.now) }
-{
-    let mut i = at;
-    while i < text.len() {
-        if text[i] == b'\n' {
-            return i;
+impl Words<'_> {
+    // One word more.
+    fn put(&mut self, x: u64) {
+        let n = self.count;
+        if n < self.room.len() {
+            self.room[n] = x;
+            self.count = n + 1;
         }
-        i += 1;
     }
-    i
+
+    // The number in the 16 bytes from byte `k` on, as two words.
+    fn put_number(&mut self, s: &[u8], k: usize)
+        requires { k ≤ 4194304 }
+    {
+        self.put(u64::from_le_bytes(hex::bytes(s, k)));
+        self.put(u64::from_le_bytes(hex::bytes(s, k + 8)));
+    }
+
+    // Rows of 16 bytes, two words each, at most 112.
+    fn put_rows(&mut self, s: &[u8]) {
+        for i in 0..(s.len() / 32).min(112) {
+            self.put_number(s, 16 * i);
+        }
+    }
+
+    // The number and the operands' values of a load, a store or an exit.
+    fn put_access(&mut self, line: &[u8]) {
+        self.put(number(part(line, b'\t', 1)));
+        self.put_number(part(line, b'\t', 2), 0);
+        self.put_number(part(line, b'\t', 3), 0);
+    }
+
+    // One line's words.
+    fn put_event(&mut self, line: &[u8]) {
+        let k = kind(line);
+        self.put(k);
+        if 3 < k {
+            self.put(0);
+            self.put_rows(part(line, b'\t', 1));
+            return;
+        }
+        self.put_access(line);
+        if k == 3 {
+            self.put_rows(part(line, b'\t', 4));
+        }
+    }
 }
 
 // The words of the events that a text lists.
-pub fn events(text: &[u8], row: &mut [u64]) -> usize
-    ensures { result ≤ length row.old }
-{
-    let mut n: usize = 0;
-    let mut at: usize = 0;
-    while at < text.len() {
-        let end = line_end(text, at);
-        n = event(&text[at..end], row, n);
-        at = end + 1;
+pub fn events<'a>(text: &[u8], room: &'a mut [u64]) -> &'a [u64] {
+    let mut words = Words { room, count: 0 };
+    for line in text.split_inclusive(|b| *b == b'\n') {
+        words.put_event(head(line, b'\n'));
     }
-    n
+    let Words { room, count } = words;
+    room.get(..count).unwrap_or(&[])
 }
 
 // The words of the answers that a text lists, a line each.
-pub fn answers(text: &[u8], row: &mut [u64]) -> usize
-    ensures { result ≤ length row.old }
-{
-    let mut n: usize = 0;
-    let mut at: usize = 0;
-    while at < text.len() {
-        let end = line_end(text, at);
-        n = put_number(row, n, &text[at..end], 0);
-        at = end + 1;
+pub fn answers<'a>(text: &[u8], room: &'a mut [u64]) -> &'a [u64] {
+    let mut words = Words { room, count: 0 };
+    for line in text.split_inclusive(|b| *b == b'\n') {
+        words.put_number(head(line, b'\n'), 0);
     }
-    n
+    let Words { room, count } = words;
+    room.get(..count).unwrap_or(&[])
 }
 
-// The row of the variable that a line names; past the table where the block does not name it.
-fn row_of(line: &[u8], vars: Vars) -> usize {
-    match record::operand::id(part(line, b'\t', 0)) {
-        ReadId::Bad => 112,
-        ReadId::Good(id) => vars.row(id),
-    }
-}
-
-fn zeros() -> [[u8; 16]; 112] {
-    [[0; 16]; 112]
+// The row of the variable that a line names, where the block names it.
+fn row_of(line: &[u8], vars: &Vars) -> Option<usize> {
+    let id = record::operand::id(part(line, b'\t', 0))?;
+    vars.held().iter().position(|x| *x == id)
 }
 
 // The state that a text gives to a block's variables.
-pub fn start(text: &[u8], vars: Vars) -> [[u8; 16]; 112] {
-    let count = vars.count;
-    let mut state = zeros();
-    let mut at: usize = 0;
-    while at < text.len() {
-        let end = line_end(text, at);
-        let row = row_of(&text[at..end], vars);
-        let bytes = hex::row(part(&text[at..end], b'\t', 1));
-        at = end + 1;
-        if count <= row {
-            continue;
+pub fn start(text: &[u8], vars: &Vars) -> [[u8; 16]; 112] {
+    let mut state = [[0; 16]; 112];
+    for line in text.split_inclusive(|b| *b == b'\n') {
+        let line = head(line, b'\n');
+        match row_of(line, vars) {
+            Some(row) if row < 112 => state[row] = hex::bytes(part(line, b'\t', 1), 0),
+            _ => {}
         }
-        if 112 <= row {
-            continue;
-        }
-        state[row] = bytes;
     }
     state
 }

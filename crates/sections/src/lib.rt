@@ -1,132 +1,71 @@
-// The sections of a recorded list, a header line `NAME LENGTH` and so many bytes each, and its cases: an input and an answer to it.
+// The sections of a recorded list: a header line `NAME LENGTH` and so many bytes each.
 #![tactic(auto)]
 
-ghost use Rattle.std.specs.Prelude.{◌+◌, ◌<◌, ◌≤◌, length};
+ghost use Rattle.std.specs.Prelude.{◌+◌, ◌<◌, ◌≤◌, length, IfSome};
+ghost use Rattle.std.specs.Iterator.{at_most};
 
 pub mod tally; // tally.rt: how many answers agree
 
-use fields::decimal::{Parsed, decimal};
+use fields::decimal::decimal;
 use fields::part::place;
 
-// The first letter of a section's name, and where its bytes stand; an empty part at the end where the header is bad.
+// A section: the first letter of its name, and its bytes.
 #[derive(Clone, Copy)]
-pub struct Section {
+pub struct Section<'a> {
     pub name: u8,
-    pub start: usize,
-    pub end: usize,
+    pub bytes: &'a [u8],
 }
 
-fn sized(name: u8, start: usize, n: usize, size: Parsed) -> Section
-    requires { start ≤ n }
-    ensures { (result.start ≤ result.end) × (result.end ≤ n) }
-{
-    match size {
-        Parsed::Bad => Section {
-            name: 0,
-            start: n,
-            end: n,
-        },
-        Parsed::Value(v) => {
-            if 4194304 < v {
-                return Section {
-                    name: 0,
-                    start: n,
-                    end: n,
-                };
-            }
-            let k = v as usize;
-            if n - start < k {
-                return Section {
-                    name: 0,
-                    start: n,
-                    end: n,
-                };
-            }
-            Section {
-                name,
-                start,
-                end: start + k,
-            }
-        }
-    }
-}
+// The sections of what is left of a list; a bad header gives a last one, without a name and without bytes.
+#[derive(Drop)]
+pub struct Sections<'a>(pub &'a [u8]);
 
-pub fn next(list: &[u8], at: usize) -> Section
-    ensures { (result.start ≤ result.end) × (result.end ≤ length list.now) }
+// The section at the beginning of a list, and what follows it.
+fn split(list: &[u8]) -> Option<(Section<'_>, &[u8])>
+    ensures { IfSome result (λ r. length r.1.now < length list.now) }
 {
-    let n = list.len();
-    if n <= at {
-        return Section {
-            name: 0,
-            start: n,
-            end: n,
-        };
+    let lf = place(list, b'\n');
+    if list.len() <= lf {
+        return None;
     }
-    let rest = &list[at..];
-    let lf = place(rest, b'\n');
-    if rest.len() <= lf {
-        return Section {
-            name: 0,
-            start: n,
-            end: n,
-        };
-    }
-    let blank = place(rest, b' ');
+    let blank = place(list, b' ');
     if lf <= blank {
-        return Section {
-            name: 0,
-            start: n,
-            end: n,
-        };
+        return None;
     }
-    let digits = blank + 1;
-    let size = decimal(&rest[digits..lf], 4194304);
-    sized(rest[0], at + lf + 1, n, size)
+    let size = decimal(&list[blank + 1..lf], 4194304)? as usize;
+    let body = &list[lf + 1..];
+    if body.len() < size {
+        return None;
+    }
+    let section = Section {
+        name: list[0],
+        bytes: &body[..size],
+    };
+    Some((section, &body[size..]))
 }
 
-// Where an input and an answer to it stand.
-#[derive(Clone, Copy)]
-pub struct Case {
-    pub from: usize,
-    pub to: usize,
-    pub start: usize,
-    pub end: usize,
-}
+impl<'a> Iterator for Sections<'a> {
+    type Item = Section<'a>;
 
-// From `at` on, the first section whose name has that first letter, and the last input above it; an empty case at 0 where there is none.
-pub fn next_case(list: &[u8], letter: u8, at: usize) -> Case
-    ensures { (result.from ≤ result.to) × (result.to ≤ length list.now) × (result.start ≤ result.end) × (result.end ≤ length list.now) }
-{
-    let mut from: usize = 0;
-    let mut to: usize = 0;
-    let mut i = at;
-    while i < list.len() {
-        let s = next(list, i);
-        let name = s.name;
-        let start = s.start;
-        let end = s.end;
-        if end <= i {
-            break;
+    ghost remaining = { λ s. at_most (length s.0.now) };
+
+    fn next(&mut self) -> Option<Section<'a>> {
+        let list = self.0;
+        if list.is_empty() {
+            return None;
         }
-        if name == letter {
-            return Case {
-                from,
-                to,
-                start,
-                end,
-            };
+        match split(list) {
+            None => {
+                self.0 = &[];
+                Some(Section {
+                    name: 0,
+                    bytes: &[],
+                })
+            }
+            Some((section, rest)) => {
+                self.0 = rest;
+                Some(section)
+            }
         }
-        i = end;
-        if name != b'i' {
-            continue;
-        }
-        from = start;
-        to = end;
-    }
-    Case {
-        from: 0,
-        to: 0,
-        start: 0,
-        end: 0,
     }
 }

@@ -18,16 +18,9 @@ impl Tally {
 
     // One answer more, which agrees or does not.
     pub fn with(self, same: bool) -> Tally {
-        let answers = std::num::wrapping_add_u64(self.answers, 1);
-        if same {
-            return Tally {
-                answers,
-                agree: std::num::wrapping_add_u64(self.agree, 1),
-            };
-        }
         Tally {
-            answers,
-            agree: self.agree,
+            answers: self.answers.wrapping_add(1),
+            agree: self.agree.wrapping_add(u64::from(same)),
         }
     }
 

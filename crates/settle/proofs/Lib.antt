@@ -1,2 +1,1 @@
 pub mod Settles
-pub mod Ways

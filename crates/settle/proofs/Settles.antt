@@ -1,19 +1,12 @@
 -- A settled statement keeps what holds throughout: lengths, good entries, counts that grow by one at most. Assumes nothing.
-use Prim.Native.Nat.{ℕ, ◌+◌, ◌*◌}
-use mathlib.Core.Path.{◌≡◌, refl, ◌∙◌}
-use mathlib.Core.List.{List}
-use native.Mathlib.Omega.{arith}
-use lib.ListN.{length}
+use Rattle.std.proofs.Common.{ℕ, ◌+◌, ◌*◌, ◌≡◌, refl, ◌∙◌, List, arith, length, Option, None, Some, Result, Ok, Err}
 use Rattle.pcode.specs.declared.op.Op.{Op}
 use Rattle.eval.specs.Held.{coded}
 use Rattle.eval.specs.Eval as Eval
-use Rattle.eval.specs.declared.Evaluated.{Evaluated}
-use Rattle.eval.specs.declared.Evaluated.TheVariants.{Done, RotateTooFar, BadSizes}
+use Rattle.eval.specs.declared.EvalError.{EvalError}
 use Rattle.eval.proofs.Laws.{length_names}
 use Rattle.eval.proofs.Lengths.{length_outcome}
 use Rattle.const_eval.specs.declared.place.Place.{Place}
-use Rattle.const_eval.specs.declared.map.Found.{Found}
-use Rattle.const_eval.specs.declared.map.Found.TheVariants.{Nothing, At}
 use Rattle.const_eval.specs.Known.{part_of, Fit, Within}
 use Rattle.const_eval.specs.State.{State, map_gives, noted_by, noted, Room, Able}
 use Rattle.const_eval.proofs.Parts.{part_length}
@@ -40,9 +33,9 @@ written_room p v s a f l =
 noted_next : (p : Place) (s : State) → (noted p s).tally.next ≡ s.tally.next
 noted_next p s = go (map_gives (part_of p s.store) s)
   where
-    go : (f : Found) → (noted_by f p s).tally.next ≡ s.tally.next
-    go Nothing = refl
-    go (At q) = refl
+    go : (f : Option Place) → (noted_by f p s).tally.next ≡ s.tally.next
+    go None = refl
+    go (Some q) = refl
 
 -- an output that is written and entered
 valued_kept : (p : Place) (v : List ℕ) (s : State) → Able 1 s → Fit (length s.used) p → length v ≡ 8 * p.size → Kept s (noted p (written p v s))
@@ -68,10 +61,9 @@ settled_kept op p xa xb s a f = go (Eval.outcome_of coded op xa xb (part_of p s.
     l : length (named s.tally.next cells) ≡ 8 * p.size
     l = value_length op p xa xb s.store s.tally.next (good_within p s a.good f)
 
-    go : (r : Evaluated) → Kept s (settled_by r cells p xa xb s).state
-    go Done = valued_kept p (named s.tally.next cells) s a f l
-    go RotateTooFar = same_kept s a.good
-    go BadSizes = same_kept s a.good
+    go : (r : Result (Unit {0}) EvalError) → Kept s (settled_by r cells p xa xb s).state
+    go (Ok u) = valued_kept p (named s.tally.next cells) s a f l
+    go (Err e) = same_kept s a.good
 
 -- room for k more steps stays after one step
 pub kept_able : (k : ℕ) (s t : State) → Able (k + 1) s → Kept s t → Able k t

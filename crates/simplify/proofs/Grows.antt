@@ -1,14 +1,10 @@
 -- What a whole statement keeps: the state stays good, the lengths stay, and the counts grow by four at most. Assumes nothing.
-use Prim.Native.Nat.{ℕ, ◌+◌, ◌*◌, ◌≤◌}
-use mathlib.Core.Path.{◌≡◌, refl, sym, ◌∙◌, ap, subst}
-use mathlib.Core.List.{List}
-use native.Mathlib.Omega.{arith}
-use lib.ListN.{length, drop, length-append, length-drop}
+use Rattle.std.proofs.Common.{ℕ, ◌+◌, ◌*◌, ◌≤◌, ◌≡◌, refl, sym, ◌∙◌, subst, List, arith, length, drop, length-append, length-drop}
 use Rattle.pcode.specs.declared.var.VarNode.{VarNode}
 use Rattle.pcode.specs.declared.var.Operand.{Operand}
 use Rattle.pcode.specs.declared.var.Operand.TheVariants.{None, Const, Var}
-use Rattle.pcode.specs.declared.var.Output.{Output}
-use Rattle.pcode.specs.declared.var.Output.TheVariants as Out
+use Rattle.pcode.specs.Var.{Output}
+use Rattle.std.specs.declared.option.Option.TheVariants as Out
 use Rattle.pcode.specs.declared.block.Stmt.{Stmt}
 use Rattle.vars.specs.declared.Vars.{Vars}
 use Rattle.bit_vec.specs.Lists.{codes}
@@ -21,7 +17,7 @@ use Rattle.uses.specs.Operands.{place_of, operand_bits, used_by, const_row, InOp
 use Rattle.uses.proofs.Replaced.{const_codes}
 use Rattle.widen.specs.declared.turn.Turn.{Turn}
 use Rattle.widen.specs.declared.turn.Turn.TheVariants.{Plain, Marker, Label, Jump, Exit, Hook}
-use Rattle.simplify.specs.Simplify.{used_both, replaced_of, write_of, plain_of, hook_of, turned, simplify_of, InOutput, Apt, Rows}
+use Rattle.simplify.specs.Simplify.{used_both, replaced_of, write_of, plain_of, hook_of, turned, simplify_of, InOutput, Apt}
 
 -- a good state of the lengths before, whose counts grew by k at most
 pub record Grown (k : ℕ) (before after : State) : Type 0 where
@@ -122,11 +118,11 @@ write_grown vars xa xb o st s a f =
 pub plain_grown : (vars : Vars) (xa xb : List ℕ → List ℕ) (o : Output) (st : Stmt) (s : State) → Able 2 s → InOutput (length s.used) vars o
     → Grown 2 s (plain_of vars xa xb o st s).state
 plain_grown vars xa xb Out.None st s a i = grown_more 1 2 s s (omega arith) (kept_grown s s (same_kept s a.good))
-plain_grown vars xa xb (Out.Var o) st s a i = write_grown vars xa xb o st s a i
+plain_grown vars xa xb (Out.Some o) st s a i = write_grown vars xa xb o st s a i
 
 pub hook_grown : (vars : Vars) (o : Output) (st : Stmt) (s : State) → Able 2 s → InOutput (length s.used) vars o → Grown 2 s (hook_of vars o st s).state
 hook_grown vars Out.None st s a i = grown_more 1 2 s (cleared s) (omega arith) (kept_grown s (cleared s) (cleared_kept s a.good))
-hook_grown vars (Out.Var o) st s a i =
+hook_grown vars (Out.Some o) st s a i =
     let p = place_of vars o in
     let k = cleared_kept s a.good in
     let b = able_le 1 2 (cleared s) (omega arith) (cleared_able 2 s a) in
@@ -158,13 +154,3 @@ row_length rows vars (Const v n) row i h =
     let q = length-drop (8 * n) row in
     omega (arith, p, q, h, i))
 row_length rows vars (Var v) row i h = h
-
--- the rows lent keep their lengths
-pub rows_of : (rows : ℕ) (vars : Vars) (st : Stmt) (ca cb na nb out : List ℕ) {old : List ℕ} → InOperand rows vars st.first → InOperand rows vars st.second
-    → Rows ca cb old → na ≡ const_row st.first ca → nb ≡ const_row st.second cb → length out ≡ 128 → Rows na nb out
-rows_of rows vars st ca cb na nb out i j r ea eb h =
-    record {
-      first = ap length ea ∙ row_length rows vars st.first ca i r.first;
-      second = ap length eb ∙ row_length rows vars st.second cb j r.second;
-      value = h;
-    }

@@ -1,16 +1,17 @@
 -- A statement other than a label: operands replaced, branches dropped or skipping, hooks, unchanged outputs dropped, copies.
-use Rattle.std.specs.Prelude.{ℕ, ◌≡◌, Bool, List, length}
+use Rattle.std.specs.Prelude.{ℕ, ◌≡◌, Bool, List, Result, Ok, Err, length}
 use Rattle.pcode.specs.Var.{pick}
 use Rattle.pcode.specs.Rules.{side_effects}
 use Rattle.pcode.specs.Block.{stmt_of}
 use Rattle.pcode.specs.declared.var.VarNode.{VarNode}
 use Rattle.pcode.specs.declared.var.Operand.TheVariants.{Const}
-use Rattle.pcode.specs.declared.var.Output.{Output}
-use Rattle.pcode.specs.declared.var.Output.TheVariants as Out
+use Rattle.pcode.specs.Var.{Output}
+use Rattle.std.specs.declared.option.Option.TheVariants as Out
 use Rattle.pcode.specs.declared.block.Stmt.{Stmt}
 use Rattle.vars.specs.declared.Vars.{Vars}
 use Rattle.bit_vec.specs.Lists.{bits}
 use Rattle.bit_vec.specs.Known.{const_of}
+use Rattle.eval.specs.declared.EvalError.{EvalError}
 use Rattle.const_eval.specs.Known.{Fit}
 use Rattle.const_eval.specs.State.{State, first_use, cleared, Able}
 use Rattle.widen.specs.Simple.{jump_of, exit_of}
@@ -20,8 +21,7 @@ use Rattle.widen.specs.declared.turn.Turn.{Turn}
 use Rattle.widen.specs.declared.turn.Turn.TheVariants.{Plain, Marker, Label, Jump, Exit, Hook}
 use Rattle.settle.specs.declared.Outcome.{Outcome}
 use Rattle.widen.specs.declared.simple.Simple.{Simple}
-use Rattle.widen.specs.declared.simple.Simple.TheVariants.{Dropped, Copies, Stays, TooFar, BadSizes}
-use Rattle.simplify.specs.declared.Simplified.{Simplified}
+use Rattle.widen.specs.declared.simple.Simple.TheVariants.{Dropped, Copies, Stays}
 use Rattle.simplify.specs.declared.Prepared.{Prepared}
 
 -- both operands' uses, in order
@@ -33,24 +33,23 @@ abbrev pub replaced_of : Vars → Stmt → State → Stmt
 replaced_of vars st s =
     stmt_of st.op st.output (becomes vars (used_by vars st.first s) st.first) (becomes vars (used_both vars st s) st.second)
 
--- what is known after a statement, and what it comes to
+-- what is known after a statement, and what it comes to, or the evaluator's refusal
 pub record Change : Type 0 where
   pub state : State
-  pub simple : Simple
+  pub simple : Result Simple EvalError
 
--- the state that the lent tables and the counts make, and what the statement comes to
-abbrev pub change_of : State → Simplified → Change
-change_of s r = record { state = s; simple = r.simple }
+-- what is known, and what the statement comes to
+abbrev pub change_of : State → Result Simple EvalError → Change
+change_of s r = record { state = s; simple = r }
 
 -- a statement with side effects stays; else unchanged, dropped, or a copy of what was found; st has its operands replaced
-abbrev pub simple_by : Outcome → Bool → VarNode → Stmt → Simple
-simple_by Outcome.TooFar e o st = TooFar
-simple_by Outcome.BadSizes e o st = BadSizes
-simple_by Outcome.Stays e o st = Stays st
-simple_by Outcome.Unchanged e o st = pick e (Stays st) Dropped
-simple_by (Outcome.Constantly k) e o st = pick e (Stays st) (Copies o (Const k o.size))
-simple_by Outcome.First e o st = pick e (Stays st) (Copies o st.first)
-simple_by Outcome.Second e o st = pick e (Stays st) (Copies o st.second)
+abbrev pub simple_by : Result Outcome EvalError → Bool → VarNode → Stmt → Result Simple EvalError
+simple_by (Ok Outcome.Stays) e o st = Ok (Stays st)
+simple_by (Ok Outcome.Unchanged) e o st = Ok (pick e (Stays st) Dropped)
+simple_by (Ok (Outcome.Constantly k)) e o st = Ok (pick e (Stays st) (Copies o (Const k o.size)))
+simple_by (Ok Outcome.First) e o st = Ok (pick e (Stays st) (Copies o st.first))
+simple_by (Ok Outcome.Second) e o st = Ok (pick e (Stays st) (Copies o st.second))
+simple_by (Err x) e o st = Err x
 
 -- by what was decided of its output
 abbrev pub settled_change : Settlement → VarNode → Stmt → Change
@@ -66,21 +65,21 @@ write_of vars xa xb o st s =
 
 -- a statement without output stays; one with an output is evaluated
 abbrev pub plain_of : Vars → (List ℕ → List ℕ) → (List ℕ → List ℕ) → Output → Stmt → State → Change
-plain_of vars xa xb Out.None st s = record { state = s; simple = Stays st }
-plain_of vars xa xb (Out.Var o) st s = write_of vars xa xb o st s
+plain_of vars xa xb Out.None st s = record { state = s; simple = Ok (Stays st) }
+plain_of vars xa xb (Out.Some o) st s = write_of vars xa xb o st s
 
 -- `Hook`, `HookIf` clear; an output counts as used right after that
 abbrev pub hook_of : Vars → Output → Stmt → State → Change
-hook_of vars Out.None st s = record { state = cleared s; simple = Stays st }
-hook_of vars (Out.Var o) st s = record { state = first_use (place_of vars o) (cleared s); simple = Stays st }
+hook_of vars Out.None st s = record { state = cleared s; simple = Ok (Stays st) }
+hook_of vars (Out.Some o) st s = record { state = first_use (place_of vars o) (cleared s); simple = Ok (Stays st) }
 
 -- by the operation's rule; st has its operands replaced
 abbrev pub turned : Vars → (List ℕ → List ℕ) → (List ℕ → List ℕ) → Turn → Stmt → State → Change
 turned vars xa xb Plain st s = plain_of vars xa xb st.output st s
 turned vars xa xb Marker st s = plain_of vars xa xb st.output st s
 turned vars xa xb (Label l) st s = plain_of vars xa xb st.output st s
-turned vars xa xb (Jump l) st s = record { state = s; simple = jump_of (const_of (bits (xa s.store))) l st }
-turned vars xa xb Exit st s = record { state = s; simple = exit_of (const_of (bits (xa s.store))) st }
+turned vars xa xb (Jump l) st s = record { state = s; simple = Ok (jump_of (const_of (bits (xa s.store))) l st) }
+turned vars xa xb Exit st s = record { state = s; simple = Ok (exit_of (const_of (bits (xa s.store))) st) }
 turned vars xa xb Hook st s = hook_of vars st.output st s
 
 -- a statement other than a label
@@ -91,7 +90,7 @@ simplify_of vars t st s =
 -- an output is a part of a row
 abbrev pub InOutput : ℕ → Vars → Output → Type 0
 InOutput rows vars Out.None = Unit {0}
-InOutput rows vars (Out.Var o) = Fit rows (place_of vars o)
+InOutput rows vars (Out.Some o) = Fit rows (place_of vars o)
 
 -- what a statement asks: operands and output in the store, room for four entries
 pub record Apt (vars : Vars) (st : Stmt) (s : State) : Type 0 where

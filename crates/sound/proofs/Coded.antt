@@ -1,12 +1,7 @@
 -- Every such operation is sound on the numbers that stand for bits too: moves carry numbers about, and what is written agrees once read.
-use Prim.Native.Nat.{ℕ, zero, suc, ◌+◌, ◌*◌, ◌-◌, ◌/◌, ◌%◌, ◌<◌}
-use mathlib.Core.Path.{◌≡◌, refl, sym, ◌∙◌, ap, ap₂, subst}
-use mathlib.Core.Bool.{Bool, true, false}
-use mathlib.Core.List.{List, [], ◌∷◌, ◌++◌, map, map-id, map-append}
-use native.Mathlib.Omega.{arith}
-use borrow.Author.Tests.{eqb-true, eq-eqb, ne_eqb, le-ltb}
-use lib.Dec.{eqb, leb}
-use lib.ListN.{length, take, drop, get_or, replicate, length-map}
+use Rattle.std.proofs.Common.{ℕ, zero, suc, ◌+◌, ◌*◌, ◌-◌, ◌/◌, ◌%◌, ◌<◌, ◌≡◌, refl, sym, ◌∙◌, ap, ap₂, subst, Bool, true, false, List, [], ◌∷◌, ◌++◌, map, map-id, arith, eqb-true, eq-eqb, ne_eqb, le-ltb, eqb, leb, length, take, drop, get_or, replicate, Option, Some, None, Err}
+use mathlib.Core.List.{map-append}
+use lib.ListN.{length-map}
 use Rattle.bit.specs.Bits.{one_if, pick, not_b, bit_of, code_of, code_e}
 use Rattle.bit.specs.declared.Expr.{Expr}
 use Rattle.bit.specs.declared.Bit.{Bit}
@@ -15,14 +10,12 @@ use Rattle.bit.proofs.Codes.{Small, round, small_bit}
 use Rattle.bit_vec.specs.Lists.{bits, codes, zip_bits, logic_b, ripple_bits}
 use Rattle.bit_vec.specs.Moves.{fit, last_of, up, down, digits, truth}
 use Rattle.bit_vec.specs.Known.{const_of, least, shift_by, shift_of, count_ones, leading_zeros, trailing_zeros, left_of, right_of}
-use Rattle.bit_vec.specs.declared.known.Constant.{Constant}
-use Rattle.bit_vec.specs.declared.known.Constant.TheVariants.{Known, Open}
 use Rattle.bit_vec.specs.declared.logic.Logic.TheVariants as Logic
 use Rattle.bit_vec.specs.declared.ripple.Ripple.TheVariants.{Add, Sub}
 use Rattle.bit_vec.proofs.Moved.{sign_bit}
 use Rattle.eval.specs.Held.{plain, coded, read_all, truth_of}
 use Rattle.eval.specs.Eval.{number_or, mul_by_ones, mul_by, mul_of, compare_b, bool_b, family_of, outcome_of, done}
-use Rattle.eval.specs.declared.Evaluated.TheVariants.{BadSizes}
+use Rattle.eval.specs.declared.EvalError.TheVariants.{BadSizes}
 use Rattle.eval.specs.Sizes.{fits_bits}
 use Rattle.meaning.specs.Meaning.{meaning}
 use Rattle.pcode.specs.Rules.{size_rule}
@@ -124,10 +117,10 @@ module _ {A B : Type 0} (f : A → B) where
       ap (λ (n : ℕ). map f (pick (leb n (least sh)) (replicate n z) (shift_by g u (const_of sh) (least sh) xs))) (sym (length-map xs f))
       ∙ go (leb (length (map f xs)) (least sh)) (const_of sh)
     where
-      go : (t : Bool) (c : Constant) → map f (pick t (replicate (length (map f xs)) z) (shift_by g u c (least sh) xs)) ≡ pick t (replicate (length (map f xs)) (f z)) (shift_by h (f u) c (least sh) (map f xs))
+      go : (t : Bool) (c : Option ℕ) → map f (pick t (replicate (length (map f xs)) z) (shift_by g u c (least sh) xs)) ≡ pick t (replicate (length (map f xs)) (f z)) (shift_by h (f u) c (least sh) (map f xs))
       go true c = map_replicate (length (map f xs)) z
-      go false (Known k) = q k xs
-      go false Open = q (least sh) (replicate (length xs) u) ∙ ap (h (least sh)) (map_replicate (length xs) u ∙ ap (λ (n : ℕ). replicate n (f u)) (sym (length-map xs f)))
+      go false (Some k) = q k xs
+      go false None = q (least sh) (replicate (length xs) u) ∙ ap (h (least sh)) (map_replicate (length xs) u ∙ ap (λ (n : ℕ). replicate n (f u)) (sym (length-map xs f)))
 
 zero_back : bit_of (code_of Zero) ≡ Zero
 zero_back = round Zero tt
@@ -166,21 +159,21 @@ right_back : (z : ℕ) (b : Bit) (a : List ℕ) (sh : List Bit) → bit_of z ≡
 right_back z b a sh e =
     map_shift bit_of (down z) (down (bit_of z)) z (code_of Unknown) a sh (map_down bit_of z) ∙ ap₂ (λ (z u : Bit). right_of z u (bits a) sh) e unknown_back
 
-ones_back : (c : Constant) (k n : ℕ) (b : List ℕ) → bits (mul_by_ones coded c k b n) ≡ mul_by_ones plain c k (bits b) n
-ones_back (Known zero) k n b = filled_back n Zero zero_back
-ones_back (Known (suc zero)) k n b = up_back k b
-ones_back (Known (suc (suc m))) k n b = filled_back n Unknown unknown_back
-ones_back Open k n b = filled_back n Unknown unknown_back
+ones_back : (c : Option ℕ) (k n : ℕ) (b : List ℕ) → bits (mul_by_ones coded c k b n) ≡ mul_by_ones plain c k (bits b) n
+ones_back (Some zero) k n b = filled_back n Zero zero_back
+ones_back (Some (suc zero)) k n b = up_back k b
+ones_back (Some (suc (suc m))) k n b = filled_back n Unknown unknown_back
+ones_back None k n b = filled_back n Unknown unknown_back
 
-mul_back : (c d : Constant) (a b : List ℕ) (n : ℕ) → bits (mul_by coded c d a b n) ≡ mul_by plain c d (bits a) (bits b) n
-mul_back (Known x) (Known y) a b n = digits_back n (x * y) ∙ sym (map-id (digits n (x * y)))
-mul_back (Known x) Open a b n = rw (map-id (bits a)) (ones_back (count_ones (bits a)) (trailing_zeros (bits a)) n b)
-mul_back Open (Known y) a b n = rw (map-id (bits b)) (ones_back (count_ones (bits b)) (trailing_zeros (bits b)) n a)
-mul_back Open Open a b n = filled_back n Unknown unknown_back
+mul_back : (c d : Option ℕ) (a b : List ℕ) (n : ℕ) → bits (mul_by coded c d a b n) ≡ mul_by plain c d (bits a) (bits b) n
+mul_back (Some x) (Some y) a b n = digits_back n (x * y) ∙ sym (map-id (digits n (x * y)))
+mul_back (Some x) None a b n = rw (map-id (bits a)) (ones_back (count_ones (bits a)) (trailing_zeros (bits a)) n b)
+mul_back None (Some y) a b n = rw (map-id (bits b)) (ones_back (count_ones (bits b)) (trailing_zeros (bits b)) n a)
+mul_back None None a b n = filled_back n Unknown unknown_back
 
-number_back : (c : Constant) (n : ℕ) → bits (number_or coded c n) ≡ number_or plain c n
-number_back (Known v) n = digits_back n v ∙ sym (map-id (digits n v))
-number_back Open n = filled_back n Unknown unknown_back
+number_back : (c : Option ℕ) (n : ℕ) → bits (number_or coded c n) ≡ number_or plain c n
+number_back (Some v) n = digits_back n v ∙ sym (map-id (digits n v))
+number_back None n = filled_back n Unknown unknown_back
 
 -- what is proved on bits holds on numbers: where they read as those bits, and where they are those bits' codes
 module _ (op : Op) (e : computes op ≡ true) (ρ : Valuation) (a b old : List ℕ) (vs ws : List Bool) (f : fits_bits (size_rule op) (length a) (length b) (length old) ≡ true)
@@ -204,7 +197,7 @@ module _ (op : Op) (e : computes op ≡ true) (ρ : Valuation) (a b old : List �
   evaluated h = go (eqb (length old) 0) refl (fits_bits (size_rule op) (length a) (length b) (length old)) f
     where
       go : (t : Bool) → eqb (length old) 0 ≡ t → (s : Bool) → s ≡ true
-          → Agrees ρ (bits (pick t (done old) (pick s (family_of coded op a b old) (record { answer = BadSizes; cells = old }))).cells) (low (length old) (meaning op (length a) (length old) (num vs) (num ws)))
+          → Agrees ρ (bits (pick t (done old) (pick s (family_of coded op a b old) (record { answer = Err BadSizes; cells = old }))).cells) (low (length old) (meaning op (length a) (length old) (num vs) (num ws)))
       go true p s q = empty old (eqb-true (length old) 0 p) (meaning op (length a) (length old) (num vs) (num ws))
       go false p true q = h
       go false p false q = never q

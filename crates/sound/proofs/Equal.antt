@@ -1,12 +1,7 @@
 -- Equality of symbolic bits agrees with equality of the numbers.
-use Prim.Native.Nat.{ℕ, zero, suc, ◌+◌, ◌*◌}
-use mathlib.Core.Path.{◌≡◌, refl, sym, ◌∙◌}
-use mathlib.Core.Bool.{Bool, true, false, not, ◌&&◌, and-false, and-true, and_assoc}
-use mathlib.Core.List.{List, [], ◌∷◌}
-use native.Mathlib.Omega.{arith}
-use borrow.Author.Tests.{eqb-true, eqb-false, eq-eqb, ne_eqb}
-use lib.Dec.{eqb}
-use lib.ListN.{length}
+use Rattle.std.proofs.Common.{ℕ, zero, suc, ◌+◌, ◌*◌, ◌≡◌, refl, sym, ◌∙◌, Bool, true, false, not, ◌&&◌, List, [], ◌∷◌, arith, eqb-true, eq-eqb, ne_eqb, eqb, length}
+use mathlib.Core.Bool.{and-false, and-true, and_assoc}
+use borrow.Author.Tests.{eqb-false}
 use Rattle.bit.specs.Bits.{one_if, eq_b}
 use Rattle.bit.specs.declared.Bit.{Bit}
 use Rattle.bit.specs.declared.Bit.TheVariants.{Zero, One, Unknown, Expr as Sym}

@@ -1,11 +1,5 @@
 -- What carries bits about keeps agreement, and so does a walk over two lists.
-use Prim.Native.Nat.{ℕ, zero, suc, ◌/◌, ◌%◌}
-use mathlib.Core.Path.{◌≡◌, refl, ap}
-use mathlib.Core.Bool.{Bool, true, false, not}
-use mathlib.Core.List.{List, [], ◌∷◌, ◌++◌, map}
-use native.Mathlib.Omega.{arith}
-use lib.Dec.{eqb}
-use lib.ListN.{length, take, drop, get_or, replicate}
+use Rattle.std.proofs.Common.{ℕ, zero, suc, ◌/◌, ◌%◌, ◌≡◌, refl, ap, Bool, true, false, not, List, [], ◌∷◌, ◌++◌, map, arith, eqb, length, take, drop, get_or, replicate}
 use Rattle.bit.specs.Bits.{not_b, pick}
 use Rattle.bit.specs.declared.Bit.{Bit}
 use Rattle.bit.specs.declared.Bit.TheVariants.{Zero, One, Unknown}

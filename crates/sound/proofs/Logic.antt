@@ -1,12 +1,7 @@
 -- Logic on bit vectors agrees with the same logic on numbers.
-use Prim.Native.Nat.{ℕ, ◌+◌, ◌*◌, ◌-◌, ◌/◌, ◌%◌, ◌^◌, min, max}
-use mathlib.Core.Path.{◌≡◌, refl, sym, ◌∙◌, ap₂}
-use mathlib.Core.Bool.{Bool, true, false, not, ◌&&◌, ◌||◌}
-use mathlib.Core.List.{List, [], ◌∷◌, map}
-use native.Mathlib.Omega.{arith}
-use lib.Dec.{eqb}
-use lib.Bits.{bit_and, bit_or, bit_xor, differ, and_step, or_step, xor_step}
-use lib.ListN.{length, get_or, length-map}
+use Rattle.std.proofs.Common.{ℕ, ◌+◌, ◌*◌, ◌-◌, ◌/◌, ◌%◌, ◌^◌, min, max, ◌≡◌, refl, sym, ◌∙◌, ap₂, Bool, true, false, not, ◌&&◌, ◌||◌, List, [], ◌∷◌, map, arith, eqb, bit_and, bit_or, bit_xor, length, get_or}
+use lib.Bits.{differ, and_step, or_step, xor_step}
+use lib.ListN.{length-map}
 use Rattle.bit.specs.Bits.{one_if, not_b}
 use Rattle.bit.specs.declared.Bit.{Bit}
 use Rattle.bit_vec.specs.Lists.{zip_bits, each, still, logic_b}

@@ -1,15 +1,8 @@
 -- The number of a list of truth values, and the lowest bits of a number.
-use Prim.Native.Nat.{ℕ, zero, suc, ◌+◌, ◌*◌, ◌-◌, ◌/◌, ◌%◌, ◌^◌, ◌≤◌, ◌<◌}
-use mathlib.Core.Path.{◌≡◌, refl, sym, ◌∙◌, ap, ap₂}
-use mathlib.Core.Bool.{Bool, true, false, not}
-use mathlib.Core.List.{List, [], ◌∷◌, ◌++◌, map}
-use native.Mathlib.Nat.{mul_assoc, pow-succ', pow-suc, mod-one, mod-eq_of_lt, mod-eq-sub-mod, div-div-eq-div-mul, div-one, zero-div, zero-add}
-use native.Mathlib.Omega.{arith}
-use borrow.Author.Tests.{eq-eqb, ne_eqb, le-leb, lt-leb, leb-true}
+use Rattle.std.proofs.Common.{ℕ, zero, suc, ◌+◌, ◌*◌, ◌-◌, ◌/◌, ◌%◌, ◌^◌, ◌≤◌, ◌<◌, ◌≡◌, refl, sym, ◌∙◌, ap, ap₂, Bool, true, false, not, List, [], ◌∷◌, ◌++◌, map, mul_assoc, pow-suc, mod-eq_of_lt, div-one, zero-add, arith, eq-eqb, ne_eqb, le-leb, leb-true, eqb, leb, pow_pos, length, drop, replicate}
+use native.Mathlib.Nat.{pow-succ', mod-one, mod-eq-sub-mod, div-div-eq-div-mul, zero-div}
+use borrow.Author.Tests.{lt-leb}
 use lib.Arith.{mod-mul}
-use lib.Dec.{eqb, leb}
-use lib.Pow.{pow_pos}
-use lib.ListN.{length, drop, replicate}
 use Rattle.bit.specs.Bits.{one_if}
 use Rattle.bit_vec.specs.Moves.{fit, last_of}
 use Rattle.meaning.specs.Meaning.{sign}

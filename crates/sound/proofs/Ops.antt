@@ -1,8 +1,6 @@
 -- The operations on bits keep agreement.
-use mathlib.Core.Path.{◌≡◌, refl, ◌∙◌, ap}
-use mathlib.Core.Bool.{Bool, true, false, not, ◌&&◌, ◌||◌, and_self, or_self, and-false, and-true, or-true, or-false, and-not_self, or-not_self, not-not}
-use borrow.Author.Tests.{eqb-true}
-use lib.Dec.{eqb}
+use Rattle.std.proofs.Common.{◌≡◌, refl, ◌∙◌, ap, Bool, true, false, not, ◌&&◌, ◌||◌, eqb-true, eqb}
+use mathlib.Core.Bool.{and_self, or_self, and-false, and-true, or-true, or-false, and-not_self, or-not_self, not-not}
 use Rattle.bit.specs.Bits.{kin_signs, kin_tests, kin_of, by_kin, beside, not_e, not_b, and_b, or_b, xor_b, eq_b}
 use Rattle.bit.specs.declared.Expr.{Expr}
 use Rattle.bit.specs.declared.Kin.{Kin}

@@ -1,20 +1,13 @@
 -- Shifts by a symbolic amount agree with the shifts of numbers: the amount's constant and its least value, then the moves.
-use Prim.Native.Nat.{ℕ, zero, suc, ◌+◌, ◌*◌, ◌-◌, ◌/◌, ◌%◌, ◌^◌, ◌≤◌, ◌<◌}
-use mathlib.Core.Path.{◌≡◌, refl, sym, ◌∙◌, ap, ap₂}
-use mathlib.Core.Bool.{Bool, true, false, not}
-use mathlib.Core.List.{List, [], ◌∷◌, ◌++◌, map, append_assoc, append-nil, map-append}
-use native.Mathlib.Nat.{mod-le, mul-div_cancel, mul-mod_left, mul-zero, mul_comm, add-zero, zero-add}
-use native.Mathlib.Omega.{arith}
-use borrow.Author.Tests.{leb-true, leb-false}
-use lib.Dec.{leb}
-use lib.Pow.{pow_pos, mod-pow-add}
-use lib.ListN.{length, take, drop, replicate, length-replicate, length-drop, length-map, replicate-append-replicate}
-use lib.Seq.{take-append-add, take-take, drop-append-le, drop-drop}
+use Rattle.std.proofs.Common.{ℕ, zero, suc, ◌+◌, ◌*◌, ◌-◌, ◌/◌, ◌%◌, ◌^◌, ◌≤◌, ◌<◌, ◌≡◌, refl, sym, ◌∙◌, ap, ap₂, Bool, true, false, not, List, [], ◌∷◌, ◌++◌, map, append_assoc, append-nil, mul-div_cancel, mul-zero, mul_comm, add-zero, zero-add, arith, leb-true, leb-false, leb, pow_pos, length, take, drop, replicate, length-drop, take-take, drop-drop, Option, Some, None}
+use mathlib.Core.List.{map-append}
+use native.Mathlib.Nat.{mod-le, mul-mod_left}
+use lib.Pow.{mod-pow-add}
+use lib.ListN.{length-replicate, length-map, replicate-append-replicate}
+use lib.Seq.{take-append-add, drop-append-le}
 use Rattle.bit.specs.Bits.{one_if, pick}
 use Rattle.bit.specs.declared.Bit.{Bit}
 use Rattle.bit.specs.declared.Bit.TheVariants.{Zero, One, Unknown, Expr as Sym}
-use Rattle.bit_vec.specs.declared.known.Constant.{Constant}
-use Rattle.bit_vec.specs.declared.known.Constant.TheVariants.{Known, Open}
 use Rattle.bit_vec.specs.Known.{cons_k, const_from, const_of, one_of, least, shift_by, shift_of, left_of, right_of}
 use Rattle.bit_vec.specs.Moves.{up, down, last_of}
 use Rattle.bit_vec.proofs.Shifted.{const_least}
@@ -27,9 +20,9 @@ use Rattle.sound.proofs.Numbers.{num_false, num_append, num_drop, num_flip, num_
 use Rattle.sound.proofs.Lists.{same_length, filled, unknowns, append, taken, dropped, last}
 
 -- a constant, where it is known, is k
-abbrev pub ConstIs : Constant → ℕ → Type 0
-ConstIs (Known n) k = n ≡ k
-ConstIs Open k = Unit {0}
+abbrev pub ConstIs : Option ℕ → ℕ → Type 0
+ConstIs (Some n) k = n ≡ k
+ConstIs None k = Unit {0}
 
 module _ (ρ : Valuation) where
   one_le : (x : Bit) (v : Bool) → Agree ρ x v → one_of x ≤ one_if v
@@ -47,11 +40,11 @@ module _ (ρ : Valuation) where
       let m : least (x ∷ xs) ≤ 2 * least xs + one_of x = mod-le (2 * least xs + one_of x) (2 ^ 64) in
       omega (arith, least_le xs vs h.1, one_le x v h.0)
 
-  const_cons : (x : Bit) (v : Bool) (c : Constant) (k : ℕ) → Agree ρ x v → ConstIs c k → ConstIs (cons_k x c) (one_if v + 2 * k)
-  const_cons Zero v (Known n) k h e = rw h (omega arith)
-  const_cons Zero v Open k h e = tt
-  const_cons One v (Known n) k h e = rw h (omega arith)
-  const_cons One v Open k h e = tt
+  const_cons : (x : Bit) (v : Bool) (c : Option ℕ) (k : ℕ) → Agree ρ x v → ConstIs c k → ConstIs (cons_k x c) (one_if v + 2 * k)
+  const_cons Zero v (Some n) k h e = rw h (omega arith)
+  const_cons Zero v None k h e = tt
+  const_cons One v (Some n) k h e = rw h (omega arith)
+  const_cons One v None k h e = tt
   const_cons Unknown v c k h e = tt
   const_cons (Sym x) v c k h e = tt
 
@@ -64,7 +57,7 @@ module _ (ρ : Valuation) where
   pub const_num : (xs : List Bit) (vs : List Bool) → Agrees ρ xs vs → ConstIs (const_of xs) (num vs)
   const_num xs vs h = go (leb (length xs) 64)
     where
-      go : (t : Bool) → ConstIs (pick t (const_from xs) Open) (num vs)
+      go : (t : Bool) → ConstIs (pick t (const_from xs) None) (num vs)
       go true = const_from_lem xs vs h
       go false = tt
 
@@ -134,15 +127,15 @@ module _ (ρ : Valuation) (move : ℕ → List Bit → List Bit) (shift : ℕ �
       rw (ap (λ (n : ℕ). shift n vs) (sym q) ∙ sym (M.twofold m (k - m) vs (omega arith)))
       (M.moves m (replicate (length xs) Unknown) (shift (k - m) vs) (unknowns ρ (length xs) (shift (k - m) vs) e))
 
-  below : (c : Constant) → c ≡ const_of sh → ConstIs c (num ws) → least sh < length xs → (t : Bool) → leb (length vs) (num ws) ≡ t
+  below : (c : Option ℕ) → c ≡ const_of sh → ConstIs c (num ws) → least sh < length xs → (t : Bool) → leb (length vs) (num ws) ≡ t
       → Agrees ρ (shift_by move Unknown c (least sh) xs) (pick t (replicate (length vs) u) (shift (num ws) vs))
-  below (Known k) q i l true p =
+  below (Some k) q i l true p =
       let f : k ≡ least sh = const_least sh k (sym q) in
       absurd (omega (arith, leb-true (length vs) (num ws) p, same_length ρ xs vs hx))
-  below (Known k) q i l false p = rw (← i) (M.moves k xs vs hx)
-  below Open q i l true p =
+  below (Some k) q i l false p = rw (← i) (M.moves k xs vs hx)
+  below None q i l true p =
       rw (← M.full vs) (partly (least sh) (length vs) (omega (arith, same_length ρ xs vs hx)) (omega arith))
-  below Open q i l false p =
+  below None q i l false p =
       let g : num ws < length vs = leb-false (length vs) (num ws) p in
       partly (least sh) (num ws) (least_le ρ sh ws hs) (omega arith)
 

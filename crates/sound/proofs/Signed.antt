@@ -1,15 +1,9 @@
 -- Signed comparisons and overflows of symbolic bits agree with those of two's complement.
-use Prim.Native.Nat.{ℕ, suc, ◌+◌, ◌*◌, ◌-◌, ◌%◌, ◌^◌, ◌≤◌, ◌<◌}
-use mathlib.Core.Path.{◌≡◌, refl, sym, ◌∙◌}
-use mathlib.Core.Bool.{Bool, true, false, not, ◌&&◌, ◌||◌, or-false}
-use mathlib.Core.List.{List, [], ◌∷◌}
-use native.Mathlib.Nat.{pow-succ', mod-eq_of_lt, mod-eq-sub-mod}
-use native.Mathlib.Omega.{arith}
-use borrow.Author.Tests.{ltb-true, ltb-false, leb-true, leb-false, le-leb, lt-leb, eq-eqb, ne_eqb}
-use lib.Dec.{eqb, ltb, leb}
-use lib.IntN.{◌+ℤ◌, ◌-ℤ◌}
+use Rattle.std.proofs.Common.{ℕ, suc, ◌+◌, ◌*◌, ◌-◌, ◌%◌, ◌^◌, ◌≤◌, ◌<◌, ◌≡◌, refl, sym, ◌∙◌, Bool, true, false, not, ◌&&◌, ◌||◌, List, [], ◌∷◌, mod-eq_of_lt, arith, ltb-true, ltb-false, leb-true, leb-false, le-leb, eq-eqb, ne_eqb, eqb, ltb, leb, ◌+ℤ◌, ◌-ℤ◌, length}
+use mathlib.Core.Bool.{or-false}
+use native.Mathlib.Nat.{pow-succ', mod-eq-sub-mod}
+use borrow.Author.Tests.{lt-leb}
 use lib.Signed.{lt_z, le_z}
-use lib.ListN.{length}
 use Rattle.bit.specs.Bits.{not_b, and_b, or_b, xor_b}
 use Rattle.bit.specs.declared.Bit.{Bit}
 use Rattle.bit.specs.declared.Bit.TheVariants.{Zero}

@@ -1,13 +1,9 @@
 -- Numbers and their bytes: what a part of a list of bytes stands for, and what two halves' bytes make.
-use Prim.Native.Nat.{ℕ, zero, suc, ◌+◌, ◌*◌, ◌-◌, ◌/◌, ◌%◌, ◌^◌, ◌<◌, ◌≤◌}
-use native.Mathlib.Omega.{arith}
-use native.Mathlib.Numerals.{add-one}
-use native.Mathlib.Nat.{mul_comm, mul_assoc, mul-add, add-mul-div_left, div-div-eq-div-mul, add-mul-mod_self_left, zero-add, suc-add, le_of_suc-le-suc, not-suc-le-zero, div-one, div-lt_iff_lt-mul, pow-succ', one-le-pow, mul-le-mul_left, lt_of_lt_of_le, pow-le-pow_right}
-use lib.Dec.{lit<}
-use mathlib.Core.Path.{◌≡◌, refl, sym, ap, ◌∙◌, subst}
-use mathlib.Core.List.{List, [], ◌∷◌, ◌++◌, append-nil}
-use lib.ListN.{length, take, drop, get_or, drop_of_length-le}
-use lib.Seq.{drop-cons, take_all, paste, take-paste, length-paste}
+use Rattle.std.proofs.Common.{ℕ, zero, suc, ◌+◌, ◌*◌, ◌-◌, ◌/◌, ◌%◌, ◌^◌, ◌<◌, ◌≤◌, min, arith, add-one, mul_comm, mul_assoc, mul-add, zero-add, suc-add, le_of_suc-le-suc, not-suc-le-zero, div-one, div-lt_iff_lt-mul, lit<, ◌≡◌, refl, sym, ap, ◌∙◌, subst, List, [], ◌∷◌, ◌++◌, append-nil, length, take, drop, get_or, drop_of_length-le, length-append, length-drop, replicate, drop-cons, take_at, take_all, inl, inr}
+use native.Mathlib.Nat.{add-mul-div_left, div-div-eq-div-mul, add-mul-mod_self_left, pow-succ', one-le-pow}
+use Rattle.std.proofs.lemmas.Bool.{cases_lt}
+use borrow.Rule.Slice.PartMut.{put_mid}
+use Rattle.std.specs.Int.{w64, from_le_bytes, to_le_bytes, bytes_low_first}
 use Rattle.state.specs.Bytes.{num_of, bytes_of}
 
 pub nothing : (xs : List ℕ) → num_of (take 0 xs) ≡ 0
@@ -32,6 +28,21 @@ split_at (suc k) m (x ∷ xs) h =
     ap (λ (n : ℕ). n * num_of (take m (drop k xs))) (pow-succ' 256 k) ∙ mul_assoc 256 (256 ^ k) (num_of (take m (drop k xs))) in
     let q = ap (λ (n : ℕ). 256 * n) f in
     omega arith
+
+-- a part's first eight bytes, and those past them
+pub two_halves : (xs : List ℕ) (m lo hi : ℕ) → m ≡ min (length xs) 8 → lo ≡ num_of (take m xs) → hi ≡ num_of (take (length xs - m) (drop m xs)) → lo + 2 ^ 64 * hi ≡ num_of xs
+two_halves xs m lo hi e f g =
+    let parts = split_at m (length xs - m) xs (omega arith) ∙ ap (λ (n : ℕ). n + 256 ^ m * num_of (take (length xs - m) (drop m xs))) (sym f) ∙ ap (λ (n : ℕ). lo + 256 ^ m * n) (sym g) in
+    let all : num_of (take (m + (length xs - m)) xs) ≡ num_of xs = ap num_of (take_all (m + (length xs - m)) xs (omega arith)) in
+    elim (cases_lt 8 (length xs)) [
+      | inl l ↦
+          let q : m ≡ 8 = omega arith in
+          sym (sym all ∙ parts ∙ ap (λ (n : ℕ). lo + 256 ^ n * hi) q)
+      | inr l ↦
+          let q : length xs - m ≡ 0 = omega arith in
+          let z : hi ≡ 0 = g ∙ ap (λ (n : ℕ). num_of (take n (drop m xs))) q ∙ nothing (drop m xs) in
+          (let r = parts in let e : lo + 256 ^ m * hi ≡ lo = ap (λ (n : ℕ). lo + 256 ^ m * n) z ∙ omega arith in omega (arith, all, z, e, r))
+    ]
 
 -- up to n bytes stand for a number below 256^n
 pub below : (n : ℕ) (xs : List ℕ) → ((k : ℕ) → get_or xs k 0 < 256) → num_of (take n xs) < 256 ^ n
@@ -74,28 +85,57 @@ two_parts (suc k) n lo hi h =
     ∙ ap (λ (m : ℕ). lo % 256 ∷ bytes_of (k + n) m) (add-mul-div_left lo (256 ^ k * hi) (lit< tt))
     ∙ ap (λ (l : List ℕ). lo % 256 ∷ l) (two_parts k n (lo / 256) hi r)
 
--- one digit more on top of n of them
-pub grows : (k v b : ℕ) → v < 256 ^ k → b < 256 → 256 * v + b < 256 ^ suc k
-grows k v b h g = let p = pow-succ' 256 k in let m = mul-le-mul_left 256 h in omega arith
+-- eight bytes as the library reads and writes them
+eight : (bs : List ℕ) → length bs ≡ 8 → from_le_bytes w64 bs ≡ num_of bs
+unfolding num_of
+eight (a ∷ b ∷ c ∷ d ∷ e ∷ f ∷ g ∷ h ∷ []) l = omega arith
+eight [] l = absurd (omega arith)
+eight (a ∷ []) l = absurd (omega arith)
+eight (a ∷ b ∷ []) l = absurd (omega arith)
+eight (a ∷ b ∷ c ∷ []) l = absurd (omega arith)
+eight (a ∷ b ∷ c ∷ d ∷ []) l = absurd (omega arith)
+eight (a ∷ b ∷ c ∷ d ∷ e ∷ []) l = absurd (omega arith)
+eight (a ∷ b ∷ c ∷ d ∷ e ∷ f ∷ []) l = absurd (omega arith)
+eight (a ∷ b ∷ c ∷ d ∷ e ∷ f ∷ g ∷ []) l = absurd (omega arith)
+eight (a ∷ b ∷ c ∷ d ∷ e ∷ f ∷ g ∷ h ∷ i ∷ xs) l = absurd (omega arith)
 
-pub fits_half : (k v b : ℕ) → k < 8 → v < 256 ^ k → b < 256 → 256 * v + b < 2 ^ 64
-fits_half k v b j h g = lt_of_lt_of_le (grows k v b h g) (pow-le-pow_right {n = 256} (lit< tt) {i = suc k} {j = 8} j)
+zeros : (n : ℕ) → num_of (replicate n 0) ≡ 0
+unfolding num_of
+zeros zero = refl
+zeros (suc n) = let e = zeros n in omega arith
 
--- the next byte down
-pub next_down : (row : List ℕ) (from n i : ℕ) → 0 < i → i ≤ n → from + n ≤ length row
-    → num_of (take (n - (i - 1)) (drop (from + (i - 1)) row)) ≡ 256 * num_of (take (n - i) (drop (from + i) row)) + get_or row (from + (i - 1)) 0
-next_down row from n i p h l =
-    let e : n - (i - 1) ≡ suc (n - i) = omega arith in
-    let f : from + (i - 1) + 1 ≡ from + i = omega arith in
-    let m = one_more row (from + (i - 1)) (n - i) (omega arith) in
-    let g = ap (λ (k : ℕ). num_of (take (n - i) (drop k row))) f in
-    ap (λ (k : ℕ). num_of (take k (drop (from + (i - 1)) row))) e ∙ (let x = m in omega arith)
+drop_zeros : (k n : ℕ) → num_of (drop k (replicate n 0)) ≡ 0
+unfolding num_of
+drop_zeros zero n = zeros n
+drop_zeros (suc k) zero = refl
+drop_zeros (suc k) (suc n) = drop_zeros k n
+
+before_zeros : (xs zs : List ℕ) → num_of zs ≡ 0 → num_of (xs ++ zs) ≡ num_of xs
+unfolding num_of
+before_zeros [] zs h = h
+before_zeros (x ∷ xs) zs h = ap (λ (m : ℕ). x + 256 * m) (before_zeros xs zs h)
+
+-- up to eight bytes, laid over zeros
+pub padded : (xs ys : List ℕ) (r : ℕ) → r ≡ from_le_bytes w64 (put_mid 0 (length xs) (replicate 8 0) ys) → ys ≡ xs → length xs ≤ 8 → r ≡ num_of xs
+padded xs ys r e f h =
+    let eights : List ℕ = replicate 8 0 in
+    let zs : List ℕ = drop (length xs) eights in
+    let long : length (ys ++ zs) ≡ 8 = omega (arith, length-append ys zs, length-drop (length xs) eights, ap length f) in
+    e ∙ eight (ys ++ zs) long ∙ before_zeros ys zs (drop_zeros (length xs) 8) ∙ ap num_of f
+
+low_first : (n i v : ℕ) → bytes_low_first i n v ≡ bytes_of n (v / 256 ^ i)
+unfolding bytes_of
+low_first zero i v = refl
+low_first (suc n) zero v = rw (div-one v) (ap (λ (l : List ℕ). v % 256 ∷ l) (low_first n 1 v))
+low_first (suc n) (suc i) v = ap (λ (l : List ℕ). v / 256 ^ suc i % 256 ∷ l)
+    (low_first n (suc (suc i)) v ∙ ap (bytes_of n) (ap (λ (m : ℕ). v / m) (pow-succ' 256 (suc i) ∙ mul_comm 256 (256 ^ suc i)) ∙ sym (div-div-eq-div-mul v (256 ^ suc i) 256)))
+
+pub written : (v : ℕ) → to_le_bytes w64 v ≡ bytes_of 8 v
+written v = low_first 8 0 v ∙ ap (bytes_of 8) (div-one v)
 
 -- two runs of eight laid side by side fill sixteen places
-pub laid : (d a b : List ℕ) → length d ≡ 16 → length a ≡ 8 → length b ≡ 8 → paste (paste d 0 a 8) 8 b 8 ≡ a ++ b
-laid d a b hd ha hb =
-    let front : take 8 (paste d 0 a 8) ≡ a = take-paste d 0 a 8 (omega arith) (omega arith) ∙ take_all 8 a (omega arith) in
-    let whole : length (paste d 0 a 8) ≡ length d = length-paste d 0 a 8 (omega arith) (omega arith) in
-    let rest : drop 16 (paste d 0 a 8) ≡ [] = drop_of_length-le (paste d 0 a 8) {i = 16} (omega arith) in
-    ap (λ (l : List ℕ). l ++ take 8 b ++ drop 16 (paste d 0 a 8)) front ∙ ap (λ (l : List ℕ). a ++ l ++ drop 16 (paste d 0 a 8)) (take_all 8 b (omega arith))
-    ∙ ap (λ (l : List ℕ). a ++ b ++ l) rest ∙ append-nil (a ++ b)
+pub laid : (a b z : List ℕ) → length a ≡ 8 → length b ≡ 8 → length z ≡ 8 → put_mid 8 8 (a ++ z) b ≡ a ++ b
+laid a b z ha hb hz =
+    let long : length (a ++ z) ≡ 16 = omega (arith, length-append a z) in
+    let rest : drop 8 (drop 8 (a ++ z)) ≡ [] = drop_of_length-le (drop 8 (a ++ z)) {i = 8} (omega (arith, length-drop 8 (a ++ z))) in
+    rw (take_at a z 8 ha, rest, append-nil b) refl

@@ -1,8 +1,9 @@
 -- One statement of a run: what it does to the machine, the events it leaves, and where the run goes on.
-use Rattle.std.specs.Prelude.{ℕ, ◌+◌, ◌*◌, ◌^◌, List, [], ◌∷◌, eqb, get_or}
+use Rattle.std.specs.Prelude.{ℕ, ◌+◌, ◌*◌, ◌^◌, List, [], ◌∷◌, Option, None, Some, eqb, get_or}
 use Rattle.pcode.specs.Var.{pick, cut, size_out}
 use Rattle.pcode.specs.declared.var.VarId.{VarId}
-use Rattle.pcode.specs.declared.var.Output.{Output}
+use Rattle.pcode.specs.declared.var.PcodeLabel.{PcodeLabel as Label}
+use Rattle.pcode.specs.Var.{Output}
 use Rattle.pcode.specs.declared.op.Op.{Op}
 use Rattle.pcode.specs.declared.op.Op.TheVariants.{Trap, InstructionMarker, PcodeLabel, PcodeBranch, Branch, Load, Store, Call, Select, Subpiece, Opaque, Float, One, Two, Divide, Shift, Rotate, Compare, Bool as BoolOf}
 use Rattle.pcode.specs.declared.block.Stmt.{Stmt}
@@ -10,8 +11,6 @@ use Rattle.machine.specs.Values.{value_in, written, plain_step}
 use Rattle.step.specs.Events.{Event, Loaded, Stored, Taken, Marked}
 use Rattle.step.specs.declared.Act.{Act}
 use Rattle.step.specs.declared.Act.TheVariants.{Nothing, Marks, Jumps, Exits, Loads, Stores, Computes}
-use Rattle.step.specs.declared.Flow.{Flow}
-use Rattle.step.specs.declared.Flow.TheVariants.{Next, Jump}
 
 -- a machine: its rows, and how many load answers were taken
 pub record Machine : Type 0 where
@@ -78,15 +77,19 @@ events_of rows (Loads n) a b = Loaded n a b ∷ []
 events_of rows (Stores n) a b = Stored n a b ∷ []
 events_of rows Computes a b = []
 
+-- where a run goes on: at a label, or at the next statement
+abbrev pub Flow : Type 0
+Flow = Option Label
+
 -- a PcodeBranch jumps when its first operand is not 0
 abbrev pub flow_of : Act → ℕ → Flow
-flow_of Nothing a = Next
-flow_of Marks a = Next
-flow_of (Jumps l) a = pick (eqb a 0) Next (Jump l)
-flow_of (Exits n) a = Next
-flow_of (Loads n) a = Next
-flow_of (Stores n) a = Next
-flow_of Computes a = Next
+flow_of Nothing a = None
+flow_of Marks a = None
+flow_of (Jumps l) a = pick (eqb a 0) None (Some l)
+flow_of (Exits n) a = None
+flow_of (Loads n) a = None
+flow_of (Stores n) a = None
+flow_of Computes a = None
 
 -- what a statement does: its events, the machine after it, where the run goes on
 pub record Step : Type 0 where

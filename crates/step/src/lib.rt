@@ -1,7 +1,7 @@
 // One statement of a run: what it does, the state after it, and where the run goes on.
 #![tactic(auto)]
 
-ghost use Rattle.std.specs.Prelude.{◌≡◌, ◌+◌, ◌*◌, ◌<◌, ◌≤◌, ◌%◌, get_or};
+ghost use Rattle.std.specs.Prelude.{◌≡◌, ◌≤◌, get_or};
 ghost use Rattle.wide.specs.Value.{value_of};
 ghost use Rattle.vars.specs.Vars.{held_ids};
 ghost use Rattle.machine.specs.Values.{HeldOutput, ReadyOut};
@@ -11,7 +11,8 @@ use machine::plain::plain;
 use machine::values::write;
 use pcode::block::Stmt;
 use pcode::op::Op;
-use pcode::var::{Output, PcodeLabel};
+use pcode::var::{Output, PcodeLabel, output_size};
+use state::State;
 use vars::Vars;
 use wide::Wide;
 
@@ -27,36 +28,17 @@ pub enum Act {
     Computes,
 }
 
-// Where a run goes on.
-#[derive(Clone, Copy)]
-pub enum Flow {
-    Next,
-    Jump(PcodeLabel),
-}
-
 pub fn act_of(op: Op) -> Act
     ensures { result ≡ act_of op }
 {
     match op {
-        Op::Trap(_) => Act::Nothing,
+        Op::Trap(_) | Op::PcodeLabel(_) | Op::Call(_, _) => Act::Nothing,
         Op::InstructionMarker => Act::Marks,
-        Op::PcodeLabel(_) => Act::Nothing,
         Op::PcodeBranch(l) => Act::Jumps(l),
         Op::Branch(n) => Act::Exits(n),
         Op::Load(n) => Act::Loads(n),
         Op::Store(n) => Act::Stores(n),
-        Op::Call(_, _) => Act::Nothing,
-        Op::Select(_) => Act::Computes,
-        Op::Subpiece(_) => Act::Computes,
-        Op::Opaque(_) => Act::Computes,
-        Op::Float(_) => Act::Computes,
-        Op::One(_) => Act::Computes,
-        Op::Two(_) => Act::Computes,
-        Op::Divide(_) => Act::Computes,
-        Op::Shift(_) => Act::Computes,
-        Op::Rotate(_) => Act::Computes,
-        Op::Compare(_) => Act::Computes,
-        Op::Bool(_) => Act::Computes,
+        _ => Act::Computes,
     }
 }
 
@@ -64,13 +46,11 @@ pub fn act_of(op: Op) -> Act
 fn word_at(words: &[u64], i: usize) -> u64
     ensures { result ≡ get_or words.now i 0 }
 {
-    if i < words.len() {
-        return words[i];
-    }
-    0
+    words.get(i).copied().unwrap_or(0)
 }
 
 // The n-th answer.
+#[tactic(auto, unfolding(wide::specs::Value::value_of, crate::specs::Steps::answer_at))]
 fn answer_at(answers: &[u64], n: usize) -> Wide
     requires { n ≤ 129 }
     ensures { value_of result ≡ answer_at answers.now n }
@@ -82,43 +62,25 @@ fn answer_at(answers: &[u64], n: usize) -> Wide
 }
 
 // The state after a load that takes the n-th answer.
-fn load(
-    vars: Vars,
-    state: [[u8; 16]; 112],
-    output: Output,
-    answers: &[u64],
-    n: usize,
-) -> [[u8; 16]; 112]
-    requires { (n ≤ 129) × HeldOutput (held_ids vars) output }
-    ensures { result ≡ loaded_rows (held_ids vars) answers.now n state output }
+#[tactic(auto, unfolding(crate::specs::Steps::loaded_rows))]
+fn load(vars: &Vars, state: State, output: Output, answers: &[u64], n: usize) -> State
+    requires { (n ≤ 129) × HeldOutput (held_ids vars.now) output }
+    ensures { result ≡ loaded_rows (held_ids vars.now) answers.now n state output }
 {
     let whole = answer_at(answers, n);
-    let size = output.size() as u64;
-    let x = whole.cut(8 * size);
+    let x = whole.cut(8 * u64::from(output_size(output)));
     write(vars, state, output, x)
 }
 
 // The state after a statement, of a run that has taken `n` load answers.
-pub fn after(
-    vars: Vars,
-    state: [[u8; 16]; 112],
-    s: Stmt,
-    act: Act,
-    answers: &[u64],
-    n: usize,
-) -> [[u8; 16]; 112]
-    requires { (n ≤ 129) × ReadyOut (held_ids vars) state s }
-    ensures { result ≡ rows_after (held_ids vars) answers.now n state s act }
+pub fn after(vars: &Vars, state: State, s: Stmt, act: Act, answers: &[u64], n: usize) -> State
+    requires { (n ≤ 129) × ReadyOut (held_ids vars.now) state s }
+    ensures { result ≡ rows_after (held_ids vars.now) answers.now n state s act }
 {
-    let output = s.output;
     match act {
-        Act::Nothing => state,
-        Act::Marks => state,
-        Act::Jumps(_) => state,
-        Act::Exits(_) => state,
-        Act::Loads(_) => load(vars, state, output, answers, n),
-        Act::Stores(_) => state,
+        Act::Loads(_) => load(vars, state, s.output, answers, n),
         Act::Computes => plain(vars, state, s),
+        _ => state,
     }
 }
 
@@ -128,37 +90,18 @@ pub fn loads_after(n: usize, act: Act) -> usize
     ensures { result ≡ loads_after n act }
 {
     match act {
-        Act::Nothing => n,
-        Act::Marks => n,
-        Act::Jumps(_) => n,
-        Act::Exits(_) => n,
         Act::Loads(_) => n + 1,
-        Act::Stores(_) => n,
-        Act::Computes => n,
+        _ => n,
     }
 }
 
-// A branch with that operand.
-fn branch(l: PcodeLabel, a: Wide) -> Flow
-    ensures { result ≡ flow_of (Act.Jumps l) (value_of a) }
-{
-    if a.same(Wide::ZERO) {
-        return Flow::Next;
-    }
-    Flow::Jump(l)
-}
-
-// Where the run goes on after a statement with that first operand.
-pub fn flow_of(act: Act, a: Wide) -> Flow
+// Where the run goes on after a statement with that first operand: at a label, or at the next statement.
+#[tactic(auto, unfolding(wide::specs::Value::value_of))]
+pub fn flow_of(act: Act, a: Wide) -> Option<PcodeLabel>
     ensures { result ≡ flow_of act (value_of a) }
 {
     match act {
-        Act::Nothing => Flow::Next,
-        Act::Marks => Flow::Next,
-        Act::Jumps(l) => branch(l, a),
-        Act::Exits(_) => Flow::Next,
-        Act::Loads(_) => Flow::Next,
-        Act::Stores(_) => Flow::Next,
-        Act::Computes => Flow::Next,
+        Act::Jumps(l) if !a.same(Wide::ZERO) => Some(l),
+        _ => None,
     }
 }

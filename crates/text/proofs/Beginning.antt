@@ -1,26 +1,16 @@
 -- A file's beginning decides what is read: 16 marks, the statements and one line more, at most 200 bytes and an LF each. Assumes nothing.
-use Prim.Native.Nat.{ℕ, zero, suc, ◌+◌, ◌*◌, ◌-◌, ◌<◌, ◌≤◌}
-use native.Mathlib.Omega.{arith}
-use mathlib.Core.Path.{◌≡◌, refl, sym, ap, ◌∙◌}
-use mathlib.Core.Bool.{Bool, true, false}
-use mathlib.Core.List.{List, [], ◌∷◌}
-use borrow.Author.Tests.{lt-ltb, ltb-true, ltb-false, leb-true, leb-false}
-use lib.Dec.{eqb, leb, ltb}
-use lib.ListN.{length, take, drop, length-take}
-use lib.Seq.{take-nil, take-take, length-take-le}
+use Rattle.std.proofs.Common.{ℕ, zero, suc, ◌+◌, ◌*◌, ◌-◌, ◌<◌, ◌≤◌, arith, ◌≡◌, refl, sym, ap, ◌∙◌, Bool, true, false, List, [], ◌∷◌, lt-ltb, ltb-true, ltb-false, leb-true, leb-false, eqb, leb, ltb, length, take, drop, length-take, take-take, length-take-le, Result, None, Ok, Err}
+use lib.Seq.{take-nil}
 use Rattle.pcode.specs.Var.{pick}
 use Rattle.pcode.specs.declared.refusal.Refusal.TheVariants.{BadLine}
 use Rattle.fields.specs.Parts.{place_of, head_of, tail_of}
 use Rattle.fields.proofs.Parts.{placed}
 use Rattle.record.specs.Records.{record_of}
-use Rattle.record.specs.declared.record.Record.{Record}
-use Rattle.record.specs.declared.record.Record.TheVariants.{Bad}
+use Rattle.pcode.specs.declared.refusal.Refusal.{Refusal}
 use Rattle.text.specs.Reading.{newline, lines_of, empty_read, accepted, read_lines, room_of, line_room, read_room, read_of}
-use Rattle.text.specs.declared.answer.Answer.{Answer}
-use Rattle.text.specs.declared.answer.Answer.TheVariants.{Ok, Refused}
 use Rattle.text.specs.declared.answer.Read.{Read}
 use Rattle.text.proofs.Lines.{read_more, read_stop}
-use Rattle.text.proofs.Counts.{Counted, roomed, counted_none, counted_more, not_ok}
+use Rattle.text.proofs.Counts.{Counted, roomed, counted_none, counted_more}
 
 drop_take : (k n : ℕ) (s : List ℕ) → drop k (take (k + n) s) ≡ take n (drop k s)
 drop_take zero n s = let e : zero + n ≡ n = omega arith in ap (λ (m : ℕ). take m s) e
@@ -53,7 +43,7 @@ module _ (b : ℕ) where
       go false h more = ap suc (more (omega arith))
 
 -- a line of more than 200 bytes breaks the text form
-long_bad : (l : List ℕ) → 200 < length l → record_of l ≡ Bad
+long_bad : (l : List ℕ) → 200 < length l → record_of l ≡ None
 unfolding record_of
 long_bad l h = rw (lt-ltb 200 (length l) h)
 
@@ -78,11 +68,17 @@ module _ (n : ℕ) (s : List ℕ) (long : 200 < n) where
       go false e = head_lost (leb-false (place_of newline s) n e)
 
 -- an accepted line has at most 200 bytes
-short : (limit line : ℕ) (r : Read) (l : List ℕ) → (accepted limit line r (record_of l)).answer ≡ Ok → length l ≤ 200
-short limit line r l e = go (ltb 200 (length l)) refl
+short : (limit line : ℕ) (r x : Read) (l : List ℕ) → accepted limit line r (record_of l) ≡ Ok x → length l ≤ 200
+short limit line r x l e = go (ltb 200 (length l)) refl
   where
+    bad : 200 < length l → Err (BadLine line) ≡ Ok x
+    bad h = ap (accepted limit line r) (sym (long_bad l h)) ∙ e
+
+    clash : Err (BadLine line) ≡ Ok x → ⊥
+    clash z = cc
+
     go : (t : Bool) → ltb 200 (length l) ≡ t → length l ≤ 200
-    go true f = absurd (not_ok (BadLine line) (ap (λ (d : Record). (accepted limit line r d).answer) (sym (long_bad l (ltb-true 200 (length l) f))) ∙ e))
+    go true f = absurd (clash (bad (ltb-true 200 (length l) f)))
     go false f = ltb-false 200 (length l) f
 
 -- what stands after a first line that the cut lies past
@@ -93,35 +89,35 @@ tail_kept m s =
 
 -- one line more: the same record, and the rest by `more`
 module _ (limit line n : ℕ) (r : Read) (s : List ℕ) (long : 200 < n) (some : 0 < length s) where
-  abbrev next : Read
+  abbrev next : Result Read Refusal
   next = accepted limit line r (record_of (head_of newline s))
 
-  abbrev Same : ℕ → Type 0
-  Same m = read_lines limit (line + 1) next (lines_of (take m (tail_of newline s))) ≡ read_lines limit (line + 1) next (lines_of (tail_of newline s))
+  abbrev Same : Read → ℕ → Type 0
+  Same x m = read_lines limit (line + 1) x (lines_of (take m (tail_of newline s))) ≡ read_lines limit (line + 1) x (lines_of (tail_of newline s))
 
   cut_some : 0 < length (take n s)
   cut_some = omega (arith, length-take n s)
 
-  cut_next : next ≡ accepted limit line r (record_of (head_of newline (take n s)))
-  cut_next = ap (accepted limit line r) (sym (record_kept n s long))
+  cut_next : accepted limit line r (record_of (head_of newline (take n s))) ≡ next
+  cut_next = ap (accepted limit line r) (record_kept n s long)
 
-  width : next.answer ≡ Ok → place_of newline s ≤ 200
-  width a = omega (arith, short limit line r (head_of newline s) a, length-take-le (place_of newline s) s (placed newline s))
+  width : (x : Read) → next ≡ Ok x → place_of newline s ≤ 200
+  width x a = omega (arith, short limit line r x (head_of newline s) a, length-take-le (place_of newline s) s (placed newline s))
 
-  tails : next.answer ≡ Ok → tail_of newline (take n s) ≡ take (n - suc (place_of newline s)) (tail_of newline s)
-  tails a =
+  tails : (x : Read) → next ≡ Ok x → tail_of newline (take n s) ≡ take (n - suc (place_of newline s)) (tail_of newline s)
+  tails x a =
       let m = n - suc (place_of newline s) in
-      let e : n ≡ suc (place_of newline s) + m = omega (arith, width a) in
+      let e : n ≡ suc (place_of newline s) + m = omega (arith, width x a) in
       ap (λ (k : ℕ). tail_of newline (take k s)) e ∙ tail_kept m s
 
-  line_more : (a : Answer) → next.answer ≡ a → (place_of newline s ≤ 200 → next.answer ≡ Ok → Same (n - suc (place_of newline s))) →
+  line_more : (a : Result Read Refusal) → next ≡ a → ((x : Read) → place_of newline s ≤ 200 → next ≡ Ok x → Same x (n - suc (place_of newline s))) →
       read_lines limit line r (lines_of (take n s)) ≡ read_lines limit line r (lines_of s)
-  line_more Ok a more =
-      read_more limit line r (take n s) next cut_some cut_next a
-      ∙ ap (λ (l : List ℕ). read_lines limit (line + 1) next (lines_of l)) (tails a)
-      ∙ more (width a) a
-      ∙ sym (read_more limit line r s next some refl a)
-  line_more (Refused why) a more = read_stop limit line r (take n s) next cut_some cut_next why a ∙ sym (read_stop limit line r s next some refl why a)
+  line_more (Ok x) a more =
+      read_more limit line r (take n s) cut_some x (cut_next ∙ a)
+      ∙ ap (λ (l : List ℕ). read_lines limit (line + 1) x (lines_of l)) (tails x a)
+      ∙ more x (width x a) a
+      ∙ sym (read_more limit line r s some x a)
+  line_more (Err why) a more = read_stop limit line r (take n s) cut_some why (cut_next ∙ a) ∙ sym (read_stop limit line r s some why a)
 
 -- k lines may still come, and fit
 going : (k limit line n : ℕ) (r : Read) (s : List ℕ) → limit ≤ 129 → Counted limit line r → line + k ≡ 18 + limit → k * line_room ≤ n
@@ -130,9 +126,9 @@ going zero limit line n r s small c e h = absurd (omega (arith, c.lines, c.marks
 going (suc k) limit line n r [] small c e h = rw (take-nil {A = ℕ} n)
 going (suc k) limit line n r (b ∷ s) small c e h =
     let d = record_of (head_of newline (b ∷ s)) in
-    line_more limit line n r (b ∷ s) (omega arith) (omega arith) (accepted limit line r d).answer refl λ w a.
-    going k limit (line + 1) (n - suc (place_of newline (b ∷ s))) (accepted limit line r d) (tail_of newline (b ∷ s)) small
-    (counted_more limit line r small c d a) (omega arith) (omega arith)
+    line_more limit line n r (b ∷ s) (omega arith) (omega arith) (accepted limit line r d) refl λ x w a.
+    going k limit (line + 1) (n - suc (place_of newline (b ∷ s))) x (tail_of newline (b ∷ s)) small
+    (counted_more limit line r small c x d a) (omega arith) (omega arith)
 
 -- the answer of the reader for any bytes is its answer for their beginning
 pub beginning : (limit : ℕ) (bytes : List ℕ) (n : ℕ) → read_room limit ≤ n → read_of limit (take n bytes) ≡ read_of limit bytes

@@ -1,23 +1,13 @@
 -- A line's number is one more than the marks and statements before it, so it stays small.
-use Prim.Native.Nat.{ℕ, ◌+◌, ◌<◌, ◌≤◌}
-use native.Mathlib.Omega.{arith}
-use mathlib.Core.Path.{◌≡◌, refl, sym, ◌∙◌}
-use mathlib.Core.Bool.{Bool, true, false}
-use mathlib.Core.List.{List}
-use borrow.Author.Tests.{lt-ltb, ltb-false, ltb-true, leb-false}
-use lib.Dec.{leb, ltb}
-use lib.ListN.{length, take, length-take}
-use lib.Seq.{take_all}
+use Rattle.std.proofs.Common.{ℕ, ◌+◌, ◌<◌, ◌≤◌, arith, ◌≡◌, refl, sym, subst, ◌∙◌, Bool, true, false, List, lt-ltb, ltb-false, ltb-true, leb-false, leb, ltb, length, take, length-take, take_all, Option, Some, None, Ok, Err}
 use Rattle.pcode.specs.Var.{pick}
 use Rattle.pcode.specs.Block.{pushed}
 use Rattle.pcode.specs.declared.var.VarId.{VarId}
 use Rattle.pcode.specs.declared.block.Stmt.{Stmt}
-use Rattle.pcode.specs.declared.refusal.Refusal.{Refusal}
 use Rattle.pcode.specs.declared.refusal.Refusal.TheVariants.{BadLine, TooManyStatements}
 use Rattle.record.specs.declared.record.Record.{Record}
-use Rattle.record.specs.declared.record.Record.TheVariants.{Bad, Mark, Statement}
-use Rattle.text.specs.Reading.{empty_read, refused_read, read_with, with_mark, accepted_mark, accepted_stmt, accepted, room_of}
-use Rattle.text.specs.declared.answer.Answer.TheVariants.{Ok}
+use Rattle.record.specs.declared.record.Record.TheVariants.{Mark, Statement}
+use Rattle.text.specs.Reading.{empty_read, read_with, with_mark, accepted_mark, accepted_stmt, accepted, room_of}
 use Rattle.text.specs.declared.answer.Read.{Read}
 
 pub record Counted (limit line : ℕ) (r : Read) : Type 0 where
@@ -36,39 +26,36 @@ pub counted_none : (limit : ℕ) → Counted limit 1 empty_read
 unfolding empty_read
 counted_none limit = record { lines = refl; marks = omega arith; stmts = omega arith }
 
-pub not_ok : (why : Refusal) → (refused_read why).answer ≡ Ok → ⊥
-unfolding refused_read
-not_ok why e = let z : ◌≡◌ {A = ℕ} 0 1 = cc in omega arith
-
-module _ (limit line : ℕ) (r : Read) (small : limit ≤ 129) (n : Counted limit line r) where
-  mark_counted : (id : VarId) → (accepted_mark line r id).answer ≡ Ok → Counted limit (line + 1) (accepted_mark line r id)
+module _ (limit line : ℕ) (r : Read) (small : limit ≤ 129) (n : Counted limit line r) (x : Read) where
+  mark_counted : (id : VarId) → accepted_mark line r id ≡ Ok x → Counted limit (line + 1) x
   unfolding accepted_mark
   mark_counted id = go (ltb 0 r.block.count) (leb 16 r.marks.count) refl refl
     where
       go : (t u : Bool) → ltb 0 r.block.count ≡ t → leb 16 r.marks.count ≡ u →
-          (pick t (refused_read (BadLine line)) (pick u (refused_read (BadLine line)) (read_with Ok r.block (with_mark r.marks id)))).answer ≡ Ok →
-          Counted limit (line + 1) (pick t (refused_read (BadLine line)) (pick u (refused_read (BadLine line)) (read_with Ok r.block (with_mark r.marks id))))
-      go true u f g e = absurd (not_ok (BadLine line) e)
-      go false true f g e = absurd (not_ok (BadLine line) e)
-      go false false f g e = record { lines = omega (arith, n.lines); marks = omega (arith, leb-false 16 r.marks.count g); stmts = n.stmts }
+          pick t (Err (BadLine line)) (pick u (Err (BadLine line)) (Ok (read_with r.block (with_mark r.marks id)))) ≡ Ok x → Counted limit (line + 1) x
+      go true u f g e = cc
+      go false true f g e = cc
+      go false false f g e =
+          let q : read_with r.block (with_mark r.marks id) ≡ x = cc in
+          subst (Counted limit (line + 1)) q (record { lines = omega (arith, n.lines); marks = omega (arith, leb-false 16 r.marks.count g); stmts = n.stmts })
 
-  stmt_counted : (s : Stmt) → (accepted_stmt limit r s).answer ≡ Ok → Counted limit (line + 1) (accepted_stmt limit r s)
+  stmt_counted : (s : Stmt) → accepted_stmt limit r s ≡ Ok x → Counted limit (line + 1) x
   unfolding accepted_stmt
   stmt_counted s = go (leb limit r.block.count) refl
     where
       go : (t : Bool) → leb limit r.block.count ≡ t →
-          (pick t (refused_read (TooManyStatements r.block.count)) (read_with Ok (pushed r.block s) r.marks)).answer ≡ Ok →
-          Counted limit (line + 1) (pick t (refused_read (TooManyStatements r.block.count)) (read_with Ok (pushed r.block s) r.marks))
-      go true f e = absurd (not_ok (TooManyStatements r.block.count) e)
+          pick t (Err (TooManyStatements r.block.count)) (Ok (read_with (pushed r.block s) r.marks)) ≡ Ok x → Counted limit (line + 1) x
+      go true f e = cc
       go false f e =
           let h : r.block.count < limit = leb-false limit r.block.count f in
-          let q : (pushed r.block s).count ≡ r.block.count + 1 = rw (lt-ltb r.block.count 129 (omega arith)) in
-          record { lines = omega (arith, n.lines); marks = n.marks; stmts = omega arith }
+          let c : (pushed r.block s).count ≡ r.block.count + 1 = rw (lt-ltb r.block.count 129 (omega arith)) in
+          let q : read_with (pushed r.block s) r.marks ≡ x = cc in
+          subst (Counted limit (line + 1)) q (record { lines = omega (arith, n.lines); marks = n.marks; stmts = omega arith })
 
-  pub counted_more : (d : Record) → (accepted limit line r d).answer ≡ Ok → Counted limit (line + 1) (accepted limit line r d)
-  counted_more Bad e = absurd (not_ok (BadLine line) e)
-  counted_more (Mark id) e = mark_counted id e
-  counted_more (Statement s) e = stmt_counted s e
+  pub counted_more : (d : Option Record) → accepted limit line r d ≡ Ok x → Counted limit (line + 1) x
+  counted_more None e = cc
+  counted_more (Some (Mark id)) e = mark_counted id e
+  counted_more (Some (Statement s)) e = stmt_counted s e
 
 -- how many the first n of 129 are
 pub taken : (l : List Stmt) (n : ℕ) → length l ≡ 129 → length (take n l) ≡ room_of n

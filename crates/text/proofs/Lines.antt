@@ -1,7 +1,7 @@
 -- A file's first line, and how reading goes on from it.
 use Prim.Native.Nat.{ℕ, zero, suc, ◌+◌, ◌<◌, ◌≤◌}
 use native.Mathlib.Nat.{not-suc-le-zero}
-use mathlib.Core.Path.{◌≡◌, refl, ap, ◌∙◌}
+use mathlib.Core.Path.{◌≡◌, refl, ap}
 use mathlib.Core.Bool.{Bool, true, false}
 use mathlib.Core.List.{List, [], ◌∷◌}
 use lib.Dec.{eqb}
@@ -10,8 +10,8 @@ use Rattle.pcode.specs.Var.{pick}
 use Rattle.pcode.specs.declared.refusal.Refusal.{Refusal}
 use Rattle.fields.specs.Parts.{place_of, head_of, tail_of}
 use Rattle.record.specs.Records.{record_of}
-use Rattle.text.specs.Reading.{newline, in_front, lines_of, accepted, unless_refused, read_lines}
-use Rattle.text.specs.declared.answer.Answer.TheVariants.{Ok, Refused}
+use Rattle.text.specs.Reading.{newline, in_front, lines_of, accepted, read_lines}
+use Rattle.std.specs.Prelude.{Ok, Err}
 use Rattle.text.specs.declared.answer.Read.{Read}
 
 abbrev first_at : ℕ → List ℕ → ℕ → List (List ℕ)
@@ -31,24 +31,35 @@ first_of b (x ∷ s) = go (eqb b newline) (first_of x s)
     go true e = refl
     go false e = ap (in_front b) e
 
-first_line : (s : List ℕ) → 0 < length s → lines_of s ≡ head_of newline s ∷ lines_of (tail_of newline s)
+pub no_lines : (s : List ℕ) → length s ≤ 0 → lines_of s ≡ []
+unfolding lines_of
+no_lines [] h = refl
+no_lines (b ∷ s) h = absurd (not-suc-le-zero h)
+
+pub first_line : (s : List ℕ) → 0 < length s → lines_of s ≡ head_of newline s ∷ lines_of (tail_of newline s)
 first_line [] h = absurd (not-suc-le-zero h)
 first_line (b ∷ s) h = first_of b s
 
-pub read_end : (limit line : ℕ) (r : Read) (s : List ℕ) → length s ≤ 0 → read_lines limit line r (lines_of s) ≡ r
-unfolding read_lines lines_of
-read_end limit line r [] h = refl
-read_end limit line r (b ∷ s) h = absurd (not-suc-le-zero h)
+-- reading goes on line by line
+module _ (limit line : ℕ) (r : Read) (ls : List (List ℕ)) where
+  pub lines_end : ls ≡ [] → read_lines limit line r ls ≡ Ok r
+  unfolding read_lines
+  lines_end e = rw e
 
--- x is what accepting the first line's record leaves
-module _ (limit line : ℕ) (r : Read) (s : List ℕ) where
-  module _ (x : Read) (h : 0 < length s) (e : x ≡ accepted limit line r (record_of (head_of newline s))) where
-    going : read_lines limit line r (lines_of s) ≡ unless_refused x.answer (read_lines limit (line + 1) x (lines_of (tail_of newline s))) x
+  module _ (l : List ℕ) (ks : List (List ℕ)) (e : ls ≡ l ∷ ks) where
+    pub lines_more : (x : Read) → accepted limit line r (record_of l) ≡ Ok x → read_lines limit line r ls ≡ read_lines limit (line + 1) x ks
     unfolding read_lines
-    going = rw (first_line s h, e)
+    lines_more x f = rw (e, f)
 
-    pub read_more : x.answer ≡ Ok → read_lines limit line r (lines_of s) ≡ read_lines limit (line + 1) x (lines_of (tail_of newline s))
-    read_more a = going ∙ rw a
+    pub lines_stop : (why : Refusal) → accepted limit line r (record_of l) ≡ Err why → read_lines limit line r ls ≡ Err why
+    unfolding read_lines
+    lines_stop why f = rw (e, f)
 
-    pub read_stop : (why : Refusal) → x.answer ≡ Refused why → read_lines limit line r (lines_of s) ≡ x
-    read_stop why a = going ∙ rw a
+-- the same by a file's first line
+module _ (limit line : ℕ) (r : Read) (s : List ℕ) (h : 0 < length s) where
+  pub read_more : (x : Read) → accepted limit line r (record_of (head_of newline s)) ≡ Ok x →
+      read_lines limit line r (lines_of s) ≡ read_lines limit (line + 1) x (lines_of (tail_of newline s))
+  read_more x e = lines_more limit line r (lines_of s) _ _ (first_line s h) x e
+
+  pub read_stop : (why : Refusal) → accepted limit line r (record_of (head_of newline s)) ≡ Err why → read_lines limit line r (lines_of s) ≡ Err why
+  read_stop why e = lines_stop limit line r (lines_of s) _ _ (first_line s h) why e

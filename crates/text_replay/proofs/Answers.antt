@@ -1,10 +1,5 @@
 -- What a printing function promises is what is answered, where the page has room.
-use Prim.Native.Nat.{ℕ, ◌*◌, ◌≤◌}
-use native.Mathlib.Omega.{arith}
-use mathlib.Core.Path.{◌≡◌, sym, ap, subst, ◌∙◌}
-use mathlib.Core.List.{List, [], ◌∷◌, ◌++◌}
-use borrow.Author.Tests.{le-ltb}
-use lib.ListN.{length, take, length-append}
+use Rattle.std.proofs.Common.{Option, Some, Ok, Err, unwrap_or, ℕ, ◌*◌, ◌≤◌, arith, ◌≡◌, sym, ap, subst, ◌∙◌, List, [], ◌∷◌, ◌++◌, le-ltb, length, take, length-append}
 use lib.Seq.{take-append_seam}
 use Rattle.pcode.specs.Block.{held}
 use Rattle.pcode.specs.Refusals.{refusal_number, refusal_place}
@@ -13,20 +8,17 @@ use Rattle.pcode.specs.declared.block.Block.{Block}
 use Rattle.pcode.specs.declared.block.Limits.{Limits}
 use Rattle.pcode.specs.declared.refusal.Refusal.{Refusal}
 use Rattle.text.specs.Reading.{read_of}
-use Rattle.text.specs.declared.answer.Answer.TheVariants.{Ok, Refused}
 use Rattle.text.specs.declared.answer.Read.{Read}
 use Rattle.text.proofs.Counts.{roomed}
 use Rattle.checks.specs.Checks.{check_of}
 use Rattle.print.specs.Rooms.{record_room, refusal_room}
 use Rattle.print.specs.Texts.{written, digits_text}
 use Rattle.print.specs.Printing.{record_text, printed, refusal_text, after_print, Print}
-use Rattle.print.specs.declared.print.Printed.{Printed}
-use Rattle.print.specs.declared.print.Printed.TheVariants.{Written}
 use Rattle.print.proofs.Writes.{written_length}
 use Rattle.roundtrip.proofs.Digits.{length_digits}
 use Rattle.roundtrip.proofs.Records.{record_length}
 use Rattle.roundtrip.proofs.Sizes.{checked_count}
-use Rattle.text_replay.specs.Answers.{count_of, checked_text, answer_text, page_room, Answered}
+use Rattle.text_replay.specs.Answers.{checked_text, answer_text, page_room, Answered}
 
 -- a text's length within its room
 printed_length : (ss : List Stmt) → length (printed ss) ≤ record_room * length ss
@@ -42,28 +34,28 @@ refusal_length why =
     omega
     (arith, length-append x (9 ∷ (y ++ 10 ∷ [])), length-append y (10 ∷ []), length_digits 2 (refusal_number why), length_digits 20 (refusal_place why))
 
-module _ {room : ℕ} {text old new : List ℕ} {p : Printed} {r : ℕ} (w : Print room text old new p) (e : r ≡ count_of p) (h : room ≤ length old) (g : length text ≤ room) where
-  wrote : p ≡ Written (length text)
+module _ {room : ℕ} {text old new : List ℕ} {p : Option ℕ} {r : ℕ} (w : Print room text old new p) (e : r ≡ unwrap_or p 0) (h : room ≤ length old) (g : length text ≤ room) where
+  wrote : p ≡ Some (length text)
   wrote = w.answer ∙ rw (le-ltb (length old) room h)
 
   bytes : new ≡ written old 0 text
-  bytes = w.memory ∙ ap (λ (q : Printed). after_print q text old) wrote
+  bytes = w.memory ∙ ap (λ (q : Option ℕ). after_print q text old) wrote
 
   print_answered : Answered text old new r
   print_answered =
       record {
-        count = e ∙ ap count_of wrote;
+        count = e ∙ ap (λ (q : Option ℕ). unwrap_or q 0) wrote;
         bytes = bytes;
         kept = ap length bytes ∙ written_length old 0 text (omega arith);
         fits = omega arith;
       }
 
 -- a block that passes the checks has room on a page
-pub block_answered : (limits : Limits) (b : Block) {old new : List ℕ} {p : Printed} {r : ℕ} → Print (record_room * length (held b)) (printed (held b)) old new p → r ≡ count_of p →
-    page_room ≤ length old → check_of limits b ≡ Ok → Answered (printed (held b)) old new r
+pub block_answered : (limits : Limits) (b : Block) {old new : List ℕ} {p : Option ℕ} {r : ℕ} → Print (record_room * length (held b)) (printed (held b)) old new p → r ≡ unwrap_or p 0 →
+    page_room ≤ length old → check_of limits b ≡ Ok tt → Answered (printed (held b)) old new r
 block_answered limits b w e h c = print_answered w e (omega (arith, checked_count limits b c, roomed limits.stmts)) (printed_length (held b))
 
-pub refusal_answered : (why : Refusal) {old new : List ℕ} {p : Printed} {r : ℕ} → Print refusal_room (refusal_text why) old new p → r ≡ count_of p → page_room ≤ length old →
+pub refusal_answered : (why : Refusal) {old new : List ℕ} {p : Option ℕ} {r : ℕ} → Print refusal_room (refusal_text why) old new p → r ≡ unwrap_or p 0 → page_room ≤ length old →
     Answered (refusal_text why) old new r
 refusal_answered why w e h = print_answered w e (omega arith) (refusal_length why)
 
@@ -77,19 +69,19 @@ pub told : {text other old new : List ℕ} {r : ℕ} → text ≡ other → Answ
 told {old = old} {new = new} {r = r} e w = subst (λ (t : List ℕ). Answered t old new r) (sym e) w
 
 module _ (limits : Limits) (b : Block) where
-  pub checked_ok : check_of limits b ≡ Ok → checked_text limits b ≡ printed (held b)
+  pub checked_ok : check_of limits b ≡ Ok tt → checked_text limits b ≡ printed (held b)
   unfolding checked_text
   checked_ok e = rw e
 
-  pub checked_refused : (why : Refusal) → check_of limits b ≡ Refused why → checked_text limits b ≡ refusal_text why
+  pub checked_refused : (why : Refusal) → check_of limits b ≡ Err why → checked_text limits b ≡ refusal_text why
   unfolding checked_text
   checked_refused why e = rw e
 
-module _ (limits : Limits) (bytes : List ℕ) (x : Read) (q : x ≡ read_of limits.stmts bytes) where
-  pub read_ok : x.answer ≡ Ok → answer_text limits bytes ≡ checked_text limits x.block
+module _ (limits : Limits) (bytes : List ℕ) where
+  pub read_ok : (r : Read) → read_of limits.stmts bytes ≡ Ok r → answer_text limits bytes ≡ checked_text limits r.block
   unfolding answer_text
-  read_ok e = rw (← q, e)
+  read_ok r e = rw e
 
-  pub read_refused : (why : Refusal) → x.answer ≡ Refused why → answer_text limits bytes ≡ refusal_text why
+  pub read_refused : (why : Refusal) → read_of limits.stmts bytes ≡ Err why → answer_text limits bytes ≡ refusal_text why
   unfolding answer_text
-  read_refused why e = rw (← q, e)
+  read_refused why e = rw e

@@ -8,6 +8,7 @@ mod cases; // cases.rt: one input, read, checked, printed and compared
 
 use input::fill;
 use pcode::block::Limits;
+use sections::Sections;
 use sections::tally::{Tally, page, room};
 use std::io;
 
@@ -16,19 +17,14 @@ fn replay(list: &[u8], letter: u8, limits: Limits, out: &mut [u8]) -> Tally
     requires { page_room ≤ length out.old }
 {
     let mut tally = Tally::NONE;
-    let mut at: usize = 0;
-    while at < list.len() {
-        let c = sections::next_case(list, letter, at);
-        let from = c.from;
-        let to = c.to;
-        let start = c.start;
-        let end = c.end;
-        if end <= at {
-            return tally;
+    let mut input: &[u8] = &[];
+    for s in Sections(list) {
+        if s.name == letter {
+            tally = tally.with(cases::agrees(input, s.bytes, limits, out));
+            input = &[];
+        } else if s.name == b'i' {
+            input = s.bytes;
         }
-        at = end;
-        let same = cases::agrees(&list[from..to], &list[start..end], limits, out);
-        tally = tally.with(same);
     }
     tally
 }
@@ -37,8 +33,8 @@ fn main(rt: HostRuntime) -> io::Result<()> {
     let mut list = room();
     let mut out = page();
     let n = fill(&mut rt.stdin(), &mut list)?;
-    let read = replay(&list[..n], b'r', Limits::first(), &mut out);
+    let read = replay(&list[..n], b'r', Limits::FIRST, &mut out);
     read.show(&rt, b"read: answers ")?;
-    let wide = replay(&list[..n], b'w', Limits::second(), &mut out);
+    let wide = replay(&list[..n], b'w', Limits::SECOND, &mut out);
     wide.show(&rt, b"wide: answers ")
 }

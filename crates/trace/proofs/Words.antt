@@ -1,13 +1,5 @@
 -- Words of numbers, of lasting variables and of events, one after the other.
-use Prim.Native.Nat.{ℕ, suc, ◌+◌, ◌*◌, ◌%◌, ◌^◌, ◌<◌}
-use native.Mathlib.Omega.{arith}
-use native.Mathlib.Numerals.{add-one}
-use native.Mathlib.Nat.{add-zero, zero-add}
-use mathlib.Core.Path.{◌≡◌, refl, sym, ap, ◌∙◌}
-use mathlib.Core.List.{List, [], ◌∷◌, ◌++◌, append_assoc, append-nil}
-use lib.Dec.{lit<}
-use lib.ListN.{length, take, get_or}
-use lib.Seq.{take-suc, length-take-le}
+use Rattle.std.proofs.Common.{ℕ, suc, ◌+◌, ◌*◌, ◌%◌, ◌^◌, ◌<◌, ◌≤◌, arith, add-one, add-zero, zero-add, ◌≡◌, refl, sym, ap, ◌∙◌, List, [], ◌∷◌, ◌++◌, append_assoc, append-nil, lit<, length, take, get_or, take-suc, length-take-le}
 use Rattle.pcode.specs.Var.{pick}
 use Rattle.pcode.specs.Block.{lasting}
 use Rattle.pcode.specs.declared.var.VarId.{VarId}
@@ -15,6 +7,10 @@ use Rattle.pcode.specs.declared.block.Marks.{Marks}
 use Rattle.wide.proofs.Halves.{low_digit, high_digit}
 use Rattle.state.specs.Bytes.{num_of, read_of}
 use Rattle.step.specs.Events.{Event, Loaded, Stored, Taken, Marked, Ended}
+use Rattle.step.specs.Steps.{events_of}
+use Rattle.step.specs.declared.Act.{Act}
+use Rattle.print.specs.Texts.{Wrote}
+use Rattle.print.proofs.Writes.{retold}
 use Rattle.trace.specs.Words.{halves, lasting_words, access_words, state_words, words_of, trace_words}
 
 pub halved : (lo hi : ℕ) → lo < 2 ^ 64 → (lo ∷ []) ++ (hi ∷ []) ≡ halves (lo + 2 ^ 64 * hi)
@@ -84,3 +80,8 @@ module _ (marks : Marks) (ids : List VarId) where
   words_append (e ∷ xs) ys =
       ap (λ (t : List ℕ). words_of marks ids e ++ t) (words_append xs ys)
       ∙ sym (append_assoc (words_of marks ids e) (trace_words marks ids xs) (trace_words marks ids ys))
+
+-- the words of an act's event, where the act is known
+module _ (marks : Marks) (ids : List VarId) (rows : List (List ℕ)) (a b : ℕ) {act known : Act} (e : act ≡ known) {k at r : ℕ} {old new words : List ℕ} where
+  pub event_words : words ≡ trace_words marks ids (events_of rows known a b) → k ≤ 230 → Wrote k old at words new r → Wrote 230 old at (trace_words marks ids (events_of rows act a b)) new r
+  event_words q h w = retold (q ∙ sym (ap (λ (x : Act). trace_words marks ids (events_of rows x a b)) e)) h w

@@ -1,4 +1,5 @@
 // Recording a run's events as words at a place of a lent buffer; each function answers the place after them.
+// The buffer and its place are two parameters, as in print: of a struct that lends the buffer each clause would name the fields before and after.
 #![tactic(auto)]
 
 ghost use Rattle.std.specs.Prelude.{[], ◌∷◌, ◌+◌, ◌*◌, ◌<◌, ◌≤◌, length, take};
@@ -11,7 +12,7 @@ ghost use Rattle.trace.specs.Words.{halves, lasting_words, access_words, state_w
 ghost use Rattle.step.specs.Steps.{events_of};
 
 use pcode::block::Marks;
-use pcode::var::VarId;
+use state::{Row, State};
 use step::Act;
 use vars::Vars;
 use wide::Wide;
@@ -34,7 +35,7 @@ fn pair(trace: &mut [u64], at: usize, x: Wide) -> usize
 }
 
 // The bytes of a row, where its variable is lasting.
-fn row(trace: &mut [u64], at: usize, lasting: bool, bytes: [u8; 16]) -> usize
+fn row(trace: &mut [u64], at: usize, lasting: bool, bytes: Row) -> usize
     requires { at + 2 ≤ length trace.old }
     ensures { Wrote 2 trace.old at (pick lasting (halves (num_of (take 16 bytes))) []) trace.new result }
 {
@@ -44,37 +45,16 @@ fn row(trace: &mut [u64], at: usize, lasting: bool, bytes: [u8; 16]) -> usize
     at
 }
 
-// The first `n` ids' lasting variables.
-fn rows(
-    trace: &mut [u64],
-    at: usize,
-    marks: Marks,
-    ids: [VarId; 112],
-    n: usize,
-    state: [[u8; 16]; 112],
-) -> usize
-    requires { (n ≤ 112) × (at + 2 * n ≤ length trace.old) }
-    ensures { Wrote (2 * n) trace.old at (lasting_words marks state 0 (take n ids)) trace.new result }
+// The lasting variables.
+fn lasting(trace: &mut [u64], at: usize, marks: Marks, vars: &Vars, state: State) -> usize
+    requires { (vars.now.count ≤ 112) × (at + 224 ≤ length trace.old) }
+    ensures { Wrote 224 trace.old at (lasting_words marks state 0 (held_ids vars.now)) trace.new result }
 {
     let mut p = at;
-    let mut i: usize = 0;
-    while i < n {
-        let id = ids[i];
-        let bytes = state[i];
-        p = row(trace, p, marks.lasting(id), bytes);
-        i += 1;
+    for (i, id) in vars.held().iter().enumerate() {
+        p = row(trace, p, marks.lasting(*id), state[i]);
     }
     p
-}
-
-// The lasting variables.
-fn lasting(trace: &mut [u64], at: usize, marks: Marks, vars: Vars, state: [[u8; 16]; 112]) -> usize
-    requires { (vars.count ≤ 112) × (at + 224 ≤ length trace.old) }
-    ensures { Wrote 224 trace.old at (lasting_words marks state 0 (held_ids vars)) trace.new result }
-{
-    let ids = vars.ids;
-    let n = vars.count;
-    rows(trace, at, marks, ids, n, state)
 }
 
 // A load, a store or an exit, without its rows.
@@ -83,7 +63,7 @@ fn access(trace: &mut [u64], at: usize, kind: u64, n: u16, a: Wide, b: Wide) -> 
     ensures { Wrote 6 trace.old at (access_words kind n (value_of a) (value_of b)) trace.new result }
 {
     let p = word(trace, at, kind);
-    let q = word(trace, p, n as u64);
+    let q = word(trace, p, u64::from(n));
     let x = pair(trace, q, a);
     pair(trace, x, b)
 }
@@ -94,11 +74,11 @@ pub fn shown(
     at: usize,
     kind: u64,
     marks: Marks,
-    vars: Vars,
-    state: [[u8; 16]; 112],
+    vars: &Vars,
+    state: State,
 ) -> usize
-    requires { (vars.count ≤ 112) × (at + 226 ≤ length trace.old) }
-    ensures { Wrote 226 trace.old at (state_words kind marks (held_ids vars) state) trace.new result }
+    requires { (vars.now.count ≤ 112) × (at + 226 ≤ length trace.old) }
+    ensures { Wrote 226 trace.old at (state_words kind marks (held_ids vars.now) state) trace.new result }
 {
     let p = word(trace, at, kind);
     let q = word(trace, p, 0);
@@ -110,14 +90,14 @@ fn exit(
     trace: &mut [u64],
     at: usize,
     marks: Marks,
-    vars: Vars,
-    state: [[u8; 16]; 112],
+    vars: &Vars,
+    state: State,
     n: u16,
     a: Wide,
     b: Wide,
 ) -> usize
-    requires { (vars.count ≤ 112) × (at + 230 ≤ length trace.old) }
-    ensures { Wrote 230 trace.old at (trace_words marks (held_ids vars) (events_of state (Act.Exits n) (value_of a) (value_of b))) trace.new result }
+    requires { (vars.now.count ≤ 112) × (at + 230 ≤ length trace.old) }
+    ensures { Wrote 230 trace.old at (trace_words marks (held_ids vars.now) (events_of state (Act.Exits n) (value_of a) (value_of b))) trace.new result }
 {
     if a.same(Wide::ZERO) {
         return at;
@@ -131,14 +111,14 @@ pub fn event(
     trace: &mut [u64],
     at: usize,
     marks: Marks,
-    vars: Vars,
-    state: [[u8; 16]; 112],
+    vars: &Vars,
+    state: State,
     act: Act,
     a: Wide,
     b: Wide,
 ) -> usize
-    requires { (vars.count ≤ 112) × (at + 230 ≤ length trace.old) }
-    ensures { Wrote 230 trace.old at (trace_words marks (held_ids vars) (events_of state act (value_of a) (value_of b))) trace.new result }
+    requires { (vars.now.count ≤ 112) × (at + 230 ≤ length trace.old) }
+    ensures { Wrote 230 trace.old at (trace_words marks (held_ids vars.now) (events_of state act (value_of a) (value_of b))) trace.new result }
 {
     match act {
         Act::Nothing => at,

@@ -9,8 +9,7 @@ use Rattle.pcode.specs.Var.{pick, same_id}
 use Rattle.pcode.specs.Block.{held, has_id, lasting, no_marks}
 use Rattle.pcode.specs.declared.block.Block.{Block}
 use Rattle.vars.specs.Vars.{vars_of}
-use Rattle.text.specs.declared.answer.Answer.TheVariants.{Ok}
-use Rattle.text.specs.declared.answer.Read.{Read}
+use Rattle.text.specs.Reading.{read_with}
 use Rattle.print.specs.Printing.{printed}
 use Rattle.dead_store.specs.Stays.{block_of}
 use Rattle.run.specs.Run.{run_of}
@@ -18,10 +17,9 @@ use Rattle.alike.specs.Alike.{Alike}
 use Rattle.alike.specs.Examples.{v1, v2}
 use Rattle.alike.specs.Premises.{in_one_instruction, fresh_run}
 use Rattle.optimizer.specs.Both.{both_of}
-use Rattle.optimizer.specs.declared.second.Treated.{Treated}
 use Rattle.front.specs.Front.{answer_of}
 use Rattle.front.specs.declared.Pass.TheVariants.{Both}
-use Rattle.treated_alike.specs.Demand.{outside_class, treated_in, AcceptedFile, Holds, OfBytes}
+use Rattle.treated_alike.specs.Demand.{AcceptedFile, Holds, OfBytes}
 use Rattle.treated_alike.specs.Seen.{calls_of, bytes_in}
 use Rattle.treated_alike.specs.Worked as W
 use Rattle.treated_alike.specs.Worked.{file, result, given, treated, start, five, rows, rows'}
@@ -30,22 +28,12 @@ use Rattle.treated_alike.proofs.Holding.{rows_hold}
 use Rattle.treated_alike.proofs.Observed.{same_calls, same_bytes}
 
 -- the file meets the premises
-pub accepts : AcceptedFile file
-accepts =
-    record {
-      read = ap (λ (r : Read). r.answer) W.reads;
-      accepted = subst (λ (r : Read). (both_of r.block r.marks).answer ≡ Ok) (sym W.reads) (ap (λ (t : Treated). t.answer) W.treats);
-      class = subst (λ (r : Read). outside_class (held r.block) ≡ false) (sym W.reads) W.in_class_lem;
-      inside = subst (λ (r : Read). in_one_instruction (held r.block) ≡ true) (sym W.reads) W.one_instruction;
-    }
-
--- what both passes leave of it
-leaves : treated_in file ≡ block_of treated
-leaves = ap (λ (r : Read). (both_of r.block r.marks).block) W.reads ∙ ap (λ (t : Treated). t.block) W.treats
+pub accepts : AcceptedFile file (read_with (block_of given) no_marks) (block_of treated)
+accepts = record { read = W.reads; accepted = W.treats; class = W.in_class_lem; inside = W.one_instruction }
 
 -- the front door writes this text
 pub writes : (answer_of Both file).text ≡ result
-writes = treated_file_text file accepts ∙ ap (λ (b : Block). printed (held b)) leaves ∙ W.prints
+writes = treated_file_text file _ _ accepts ∙ W.prints
 
 of_bytes : OfBytes start
 of_bytes id k = go (same_id id v2)
@@ -63,12 +51,7 @@ holds' = rows_hold start of_bytes (block_of treated) (omega (arith, (W.three).1)
 -- the theorem at this file and start, with any answers with which it reads fresh
 pub runs_alike : (answers : List ℕ) → fresh_run no_marks answers given rows ≡ true
     → Alike no_marks start (vars_of given) (vars_of treated) (run_of answers given rows) (run_of answers treated rows')
-runs_alike answers fresh =
-    let a = treated_file_runs_alike file answers accepts start rows rows' (subst (λ (r : Read). Holds r.block start rows) (sym W.reads) holds)
-    (subst (λ (b : Block). Holds b start rows') (sym leaves) holds')
-    (subst (λ (r : Read). fresh_run r.marks answers (held r.block) rows ≡ true) (sym W.reads) fresh) in
-    let b = subst (λ (r : Read). Alike r.marks start (vars_of (held r.block)) (vars_of (held (treated_in file))) (run_of answers (held r.block) rows) (run_of answers (held (treated_in file)) rows')) W.reads a in
-    subst (λ (c : Block). Alike no_marks start (vars_of given) (vars_of (held c)) (run_of answers given rows) (run_of answers (held c) rows')) leaves b
+runs_alike answers fresh = treated_file_runs_alike file answers _ _ accepts start rows rows' holds holds' fresh
 
 -- with the branch taken, and not: what the treated block loads and stores, and the exit it takes
 pub calls_five_lem : calls_of (run_of five treated rows') ≡ W.calls_five

@@ -1,5 +1,5 @@
 -- Demand 3: what is asked of a block or a file and its run, and what its treated block does.
-use Rattle.std.specs.Prelude.{ℕ, zero, suc, ◌<◌, ◌≡◌, Bool, true, false, List, [], ◌∷◌, ◌++◌, map, ltb, length, take, replicate}
+use Rattle.std.specs.Prelude.{ℕ, zero, suc, ◌<◌, ◌≡◌, Bool, true, false, List, [], ◌∷◌, ◌++◌, map, ltb, length, take, replicate, Ok}
 use Rattle.pcode.specs.Block.{held}
 use Rattle.pcode.specs.declared.var.VarId.{VarId}
 use Rattle.pcode.specs.declared.block.Stmt.{Stmt}
@@ -7,7 +7,7 @@ use Rattle.pcode.specs.declared.block.Block.{Block}
 use Rattle.pcode.specs.declared.block.Marks.{Marks}
 use Rattle.vars.specs.Vars.{vars_of}
 use Rattle.text.specs.Reading.{read_of}
-use Rattle.text.specs.declared.answer.Answer.TheVariants.{Ok}
+use Rattle.text.specs.declared.answer.Read.{Read}
 use Rattle.machine.specs.Class.{own_class, first_outside}
 use Rattle.run.specs.Run.{run_of, Shape}
 use Rattle.alike.specs.ById.{Start, StartsAs}
@@ -19,31 +19,19 @@ use Rattle.optimizer.specs.Both.{both_of}
 abbrev pub outside_class : List Stmt → Bool
 outside_class ss = ltb (first_outside own_class ss 0 ss) (length ss)
 
--- a block of the run class that both passes accept, its branches forward and inside one instruction
-pub record Accepted (m : Marks) (b : Block) : Type 0 where
-  pub accepted : (both_of b m).answer ≡ Ok
+-- a block of the run class that both passes accept and leave as t, its branches forward and inside one instruction
+pub record Accepted (m : Marks) (b t : Block) : Type 0 where
+  pub accepted : both_of b m ≡ Ok t
   pub class : outside_class (held b) ≡ false
   pub inside : in_one_instruction (held b) ≡ true
   pub constants : AllShort (held b)
 
--- the block that is read from a file for both passes, and its marks
-abbrev pub block_in : List ℕ → Block
-block_in bytes = (read_of 64 bytes).block
-
--- the marks that are read from it
-abbrev pub marks_in : List ℕ → Marks
-marks_in bytes = (read_of 64 bytes).marks
-
--- the block that both passes leave of a file
-abbrev pub treated_in : List ℕ → Block
-treated_in bytes = (both_of (block_in bytes) (marks_in bytes)).block
-
--- a file that is read, and whose block is such a block; nothing is asked of its constants
-pub record AcceptedFile (bytes : List ℕ) : Type 0 where
-  pub read : (read_of 64 bytes).answer ≡ Ok
-  pub accepted : (both_of (block_in bytes) (marks_in bytes)).answer ≡ Ok
-  pub class : outside_class (held (block_in bytes)) ≡ false
-  pub inside : in_one_instruction (held (block_in bytes)) ≡ true
+-- a file from which r is read for both passes, and whose block is such a block; nothing is asked of its constants
+pub record AcceptedFile (bytes : List ℕ) (r : Read) (t : Block) : Type 0 where
+  pub read : read_of 64 bytes ≡ Ok r
+  pub accepted : both_of r.block r.marks ≡ Ok t
+  pub class : outside_class (held r.block) ≡ false
+  pub inside : in_one_instruction (held r.block) ≡ true
 
 -- rows that hold a start
 pub record Holds (b : Block) (start : Start) (rows : List (List ℕ)) : Type 0 where
@@ -52,9 +40,9 @@ pub record Holds (b : Block) (start : Start) (rows : List (List ℕ)) : Type 0 w
 
 -- the treated block's run, from the same start with the same answers: the same loads, stores and taken exits in order with the same operand
 -- values, and every byte of every lasting variable the same at each marker, each taken exit and the end
-abbrev pub RunsAlike : Marks → List ℕ → Start → Block → List (List ℕ) → List (List ℕ) → Type 0
-RunsAlike m answers start b rows rows' =
-    Alike m start (vars_of (held b)) (vars_of (held (both_of b m).block)) (run_of answers (held b) rows) (run_of answers (held (both_of b m).block) rows')
+abbrev pub RunsAlike : Marks → List ℕ → Start → Block → Block → List (List ℕ) → List (List ℕ) → Type 0
+RunsAlike m answers start b t rows rows' =
+    Alike m start (vars_of (held b)) (vars_of (held t)) (run_of answers (held b) rows) (run_of answers (held t) rows')
 
 -- a start and load answers from which the block reads no temporary byte last written by an earlier instruction
 abbrev pub Fresh : Marks → List ℕ → Block → List (List ℕ) → Type 0

@@ -1,24 +1,20 @@
 -- An operand's bits, its use, and what it becomes: its known constant, else the variable that the value map gives.
-use Rattle.std.specs.Prelude.{ℕ, ◌*◌, ◌≤◌, ◌≡◌, List, [], ◌++◌, pos, length, drop, get_or}
+use Rattle.std.specs.Prelude.{ℕ, ◌*◌, ◌≤◌, ◌≡◌, List, [], ◌++◌, Option, None as Nothing, Some, pos, length, drop, get_or}
 use Rattle.pcode.specs.Var.{size_of}
 use Rattle.pcode.specs.declared.var.VarNode.{VarNode}
 use Rattle.pcode.specs.declared.var.Operand.{Operand}
 use Rattle.pcode.specs.declared.var.Operand.TheVariants.{None, Const, Var}
 use Rattle.vars.specs.Vars.{row_of, held_ids}
 use Rattle.vars.specs.declared.Vars.{Vars}
-use Rattle.bit_vec.specs.declared.known.Constant.{Constant}
-use Rattle.bit_vec.specs.declared.known.Constant.TheVariants.{Known, Open}
 use Rattle.bit_vec.specs.Lists.{bits, codes}
 use Rattle.bit_vec.specs.Moves.{digits}
 use Rattle.bit_vec.specs.Known.{const_of}
 use Rattle.eval.specs.declared.operand.Slot.{Slot}
 use Rattle.eval.specs.declared.operand.Slot.TheVariants as Slots
 use Rattle.const_eval.specs.declared.place.Place.{Place}
-use Rattle.const_eval.specs.declared.map.Found.{Found}
-use Rattle.const_eval.specs.declared.map.Found.TheVariants.{Nothing, At}
 use Rattle.const_eval.specs.Known.{part_of, Fit}
-use Rattle.const_eval.specs.Map.{entries, Inside}
-use Rattle.const_eval.specs.State.{State, first_use, map_gives}
+use Rattle.const_eval.specs.Map.{Inside}
+use Rattle.const_eval.specs.State.{State, entries_of, first_use, map_gives}
 use Rattle.uses.specs.declared.Use.{Use}
 
 -- where a part of a variable stands in the store
@@ -54,14 +50,14 @@ used_by vars (Const v n) s = s
 used_by vars (Var v) s = first_use (place_of vars v) s
 
 -- the variable that the value map gives, else the operand itself
-abbrev pub given_of : Vars → Found → Operand → Operand
+abbrev pub given_of : Vars → Option Place → Operand → Operand
 given_of vars Nothing a = a
-given_of vars (At p) a = Var (node_at vars p)
+given_of vars (Some p) a = Var (node_at vars p)
 
 -- by its known constant, if it has one, and what the value map gives
-abbrev pub becomes_by : Vars → Constant → Found → Operand → Operand
-becomes_by vars (Known k) f a = Const k (size_of a)
-becomes_by vars Open f a = given_of vars f a
+abbrev pub becomes_by : Vars → Option ℕ → Option Place → Operand → Operand
+becomes_by vars (Some k) f a = Const k (size_of a)
+becomes_by vars Nothing f a = given_of vars f a
 
 -- by its bits, its known constant, else the variable that the value map gives
 abbrev pub becomes_of : Vars → List ℕ → State → Operand → Operand
@@ -74,15 +70,15 @@ becomes vars s (Const v n) = becomes_of vars (codes (digits (8 * n) v)) s (Const
 becomes vars s (Var v) = becomes_of vars (part_of (place_of vars v) s.store) s (Var v)
 
 -- a part that the map gives lies in a row
-abbrev pub FoundFit : Found → Type 0
+abbrev pub FoundFit : Option Place → Type 0
 FoundFit Nothing = Unit {0}
-FoundFit (At p) = Fit 112 p
+FoundFit (Some p) = Fit 112 p
 
--- the map can be asked: its first n entries lie in a store of at most 112 rows
-pub record Looks (store map : List ℕ) (n : ℕ) : Type 0 where
-  pub room : 131 * n ≤ length map
-  pub inside : Inside (length store) (entries map n)
-  pub rows : length store ≤ 128 * 112
+-- the map can be asked: its entries lie in a store of at most 112 rows
+pub record Looks (s : State) : Type 0 where
+  pub room : 131 * s.tally.count ≤ length s.map
+  pub inside : Inside (length s.store) (entries_of s)
+  pub rows : length s.store ≤ 128 * 112
 
 -- an operand is a part of a row, or a constant of at most 16 bytes
 abbrev pub InOperand : ℕ → Vars → Operand → Type 0

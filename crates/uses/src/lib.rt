@@ -6,132 +6,98 @@ ghost use Rattle.bit_vec.specs.Lists.{bits, codes};
 ghost use Rattle.bit_vec.specs.Moves.{digits};
 ghost use Rattle.bit_vec.specs.Known.{const_of};
 ghost use Rattle.const_eval.specs.Known.{Fit, Within, part_of};
-ghost use Rattle.const_eval.specs.Map.{entries, lookup_of};
-ghost use Rattle.const_eval.specs.State.{state_of, Able};
-ghost use Rattle.uses.specs.Operands.{place_of, node_at, given_of, becomes_by, FoundFit, Looks, InOperand, VarUse, Uses};
+ghost use Rattle.const_eval.specs.State.{known_of, Able, Keeps};
+ghost use Rattle.uses.specs.Operands.{place_of, node_at, given_of, becomes_of, FoundFit, Looks, InOperand, VarUse, Uses};
 
-use bit_vec::known::{Constant, get_const};
+use bit_vec::known::get_const;
 use bit_vec::moves::set_const;
-use const_eval::known::{Tally, first_use};
-use const_eval::map::{Found, lookup};
+use const_eval::known::ConstEval;
 use const_eval::place::Place;
 use eval::operand::Slot;
 use pcode::var::{Operand, VarNode};
 use vars::Vars;
 
-// The counts after an operand's use, where its bits stand, and what it becomes.
+// Where an operand's bits stand once it was used, and what it becomes.
 #[derive(Clone, Copy)]
 pub struct Use {
-    pub tally: Tally,
     pub slot: Slot,
     pub value: Operand,
 }
 
 // Where a part of a variable stands in the store.
-pub fn place(vars: Vars, v: VarNode) -> Place
-    ensures { result ≡ place_of vars v }
+pub fn place(vars: &Vars, v: VarNode) -> Place
+    ensures { result ≡ place_of vars.now v }
 {
-    let row = vars.row(v.id);
     Place {
-        row,
-        offset: v.offset as usize,
-        size: v.size as usize,
+        row: vars.row(v.id),
+        offset: usize::from(v.offset),
+        size: usize::from(v.size),
     }
 }
 
 // The part of a variable that stands there.
-fn node(vars: Vars, p: Place) -> VarNode
+fn node(vars: &Vars, p: Place) -> VarNode
     requires { Fit 112 p }
-    ensures { result ≡ node_at vars p }
+    ensures { result ≡ node_at vars.now p }
 {
-    let ids = vars.ids;
-    let row = p.row;
-    let id = ids[row];
     VarNode {
-        id,
+        id: vars.ids[p.row],
         offset: p.offset as u8,
         size: p.size as u8,
     }
 }
 
 // The variable that the value map gives, else the operand itself.
-fn given(vars: Vars, f: Found, a: Operand) -> Operand
-    requires { FoundFit f }
-    ensures { result ≡ given_of vars f a }
+fn given(vars: &Vars, found: Option<Place>, a: Operand) -> Operand
+    requires { FoundFit found }
+    ensures { result ≡ given_of vars.now found a }
 {
-    match f {
-        Found::Nothing => a,
-        Found::At(p) => { Operand::Var(node(vars, p)) }
+    match found {
+        Some(p) => Operand::Var(node(vars, p)),
+        None => a,
     }
 }
 
 // By its bits, an operand becomes its known constant, else the variable that the value map gives.
-fn becomes(store: &[u64], map: &[u64], n: usize, key: &[u64], vars: Vars, a: Operand) -> Operand
-    requires { Looks store.now map.now n }
-    ensures { result ≡ becomes_by vars (const_of (bits key.now)) (lookup_of store.now (entries map.now n) key.now) a }
+fn becomes(known: &ConstEval, key: &[u64], vars: &Vars, a: Operand) -> Operand
+    requires { Looks (known_of known.now) }
+    ensures { result ≡ becomes_of vars.now key.now (known_of known.now) a }
 {
-    let c = get_const(key);
-    match c {
-        Constant::Known(k) => Operand::Const(k, a.size()),
-        Constant::Open => {
-            let f = lookup(store, map, n, key);
-            given(vars, f, a)
-        }
+    match get_const(key) {
+        Some(k) => Operand::Const(k, a.size()),
+        None => given(vars, known.lookup(key), a),
     }
 }
 
-fn becomes_part(store: &[u64], map: &[u64], n: usize, p: Place, vars: Vars, a: Operand) -> Operand
-    requires { Looks store.now map.now n × Within (length store.now) p }
-    ensures { result ≡ becomes_by vars (const_of (bits (part_of p store.now))) (lookup_of store.now (entries map.now n) (part_of p store.now)) a }
-{
-    let s = 128 * p.row + 8 * p.offset;
-    let e = s + 8 * p.size;
-    becomes(store, map, n, &store[s..e], vars, a)
-}
-
 // A constant's bits go into the row lent for them.
-fn constant(
-    store: &[u64],
-    map: &[u64],
-    consts: &mut [u64],
-    n: usize,
-    vars: Vars,
-    value: u64,
-    size: u8,
-) -> Operand
-    requires { Looks store.now map.now n × (8 * size ≤ length consts.old) }
-    ensures value { result ≡ becomes_by vars (const_of (bits (codes (digits (8 * size) value)))) (lookup_of store.now (entries map.now n) (codes (digits (8 * size) value))) (Operand.Const value size) }
+fn constant(known: &ConstEval, consts: &mut [u64], vars: &Vars, value: u64, size: u8) -> Operand
+    requires { Looks (known_of known.now) × (8 * size ≤ length consts.old) }
+    ensures value { result ≡ becomes_of vars.now (codes (digits (8 * size) value)) (known_of known.now) (Operand.Const value size) }
     ensures consts_after { consts.new ≡ codes (digits (8 * size) value) ++ drop (8 * size) consts.old }
 {
-    let e = 8 * (size as usize);
-    set_const(&mut consts[..e], value);
-    becomes(
-        store,
-        map,
-        n,
-        &consts[..e],
-        vars,
-        Operand::Const(value, size),
-    )
+    let key = &mut consts[..8 * usize::from(size)];
+    set_const(key, value);
+    becomes(known, key, vars, Operand::Const(value, size))
 }
 
-fn variable(
-    store: &mut [u64],
-    used: &mut [u64],
-    map: &mut [u64],
-    t: Tally,
-    vars: Vars,
-    v: VarNode,
-) -> Use
-    requires { Able 1 (state_of store.old used.old map.old t) × Fit (length used.old) (place_of vars v) }
-    ensures { VarUse vars v (state_of store.old used.old map.old t) result (state_of store.new used.new map.new result.tally) }
+// What a variable becomes, by its bits in the store.
+fn stored(known: &ConstEval, p: Place, vars: &Vars, v: VarNode) -> Operand
+    requires { Looks (known_of known.now) × Within (length known.now.store.now) p }
+    ensures { result ≡ becomes_of vars.now (part_of p known.now.store.now) (known_of known.now) (Operand.Var v) }
+{
+    becomes(known, p.part(known.store), vars, Operand::Var(v))
+}
+
+// A variable's first use, and what it becomes.
+fn variable(known: &mut ConstEval, vars: &Vars, v: VarNode) -> Use
+    requires { Able 1 (known_of known.old) × Fit (length known.old.used.now) (place_of vars.now v) }
+    ensures kept { Keeps known.old known.new }
+    ensures used { VarUse vars.now v (known_of known.old) result (known_of known.new) }
 {
     let p = place(vars, v);
-    let u = first_use(store, used, map, t, p);
-    let n = u.count;
-    let value = becomes_part(store, map, n, p, vars, Operand::Var(v));
+    known.first_use(p);
+    let value = stored(known, p, vars, v);
     Use {
-        tally: u,
         slot: Slot::Var {
             row: p.row as u16,
             offset: v.offset,
@@ -141,33 +107,21 @@ fn variable(
     }
 }
 
-pub fn operand(
-    store: &mut [u64],
-    used: &mut [u64],
-    map: &mut [u64],
-    consts: &mut [u64],
-    t: Tally,
-    vars: Vars,
-    a: Operand,
-) -> Use
-    requires { Able 1 (state_of store.old used.old map.old t) × InOperand (length used.old) vars a × (length consts.old ≡ 128) }
-    ensures { Uses vars a (state_of store.old used.old map.old t) consts.old result (state_of store.new used.new map.new result.tally) consts.new }
+// An operand's use: a constant's bits go into the row lent for them.
+pub fn operand(known: &mut ConstEval, consts: &mut [u64], vars: &Vars, a: Operand) -> Use
+    requires { Able 1 (known_of known.old) × InOperand (length known.old.used.now) vars.now a × (length consts.old ≡ 128) }
+    ensures kept { Keeps known.old known.new }
+    ensures used { Uses vars.now a (known_of known.old) consts.old result (known_of known.new) consts.new }
 {
     match a {
         Operand::None => Use {
-            tally: t,
             slot: Slot::None,
             value: Operand::None,
         },
-        Operand::Const(v, n) => {
-            let k = t.count;
-            let value = constant(store, map, consts, k, vars, v, n);
-            Use {
-                tally: t,
-                slot: Slot::Const { bytes: n },
-                value,
-            }
-        }
-        Operand::Var(v) => variable(store, used, map, t, vars, v),
+        Operand::Const(v, n) => Use {
+            slot: Slot::Const { bytes: n },
+            value: constant(known, consts, vars, v, n),
+        },
+        Operand::Var(v) => variable(known, vars, v),
     }
 }

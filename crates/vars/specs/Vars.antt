@@ -1,5 +1,5 @@
 -- The block's variables in the order of first naming (output, first, second), the row of each, and where a limit is passed.
-use Rattle.std.specs.Prelude.{ℕ, suc, ◌+◌, List, [], ◌∷◌, ◌++◌, map, ltb, ℤ, pos, length, take, drop, set, replicate}
+use Rattle.std.specs.Prelude.{ℕ, suc, Bool, ◌≡◌, ◌≤◌, List, [], ◌∷◌, ◌++◌, Option, None as Nothing, Some, ltb, leb, min, pos, length, take, drop, replicate}
 use Rattle.pcode.specs.Var.{pick, same_id, as_operand}
 use Rattle.pcode.specs.Block.{has_id}
 use Rattle.pcode.specs.declared.var.VarId.{VarId}
@@ -65,31 +65,21 @@ table_of l = record { ids = l ++ drop (length l) no_ids; count = length l }
 
 -- at most 112 rows
 abbrev pub cap_of : ℕ → ℕ
-cap_of m = pick (ltb m 112) m 112
+cap_of m = min m 112
 
--- the id of a number
-abbrev pub as_id : ℤ → VarId
-as_id z = record { 0 = z }
+-- a table of at most m ids and at most 112
+pub record Sits (m : ℕ) (v : Vars) : Type 0 where
+  pub table : v ≡ table_of (held_ids v)
+  pub small : length (held_ids v) ≤ m
+  pub room : m ≤ 112
 
--- numbers as ids
-abbrev pub as_ids : List ℤ → List VarId
-as_ids l = map as_id l
+-- the table of a list's ids, where they are at most m
+abbrev pub if_fits : ℕ → List VarId → Option Vars
+if_fits m l = pick (leb (length l) m) (Some (table_of l)) Nothing
 
--- the first n numbers held, whatever the others are
-abbrev pub under : List ℤ → ℕ → Vars
-under l n = record { ids = as_ids l; count = n }
-
--- one id more, unless it is held; a count beyond cap says that one found no room
-unfoldable pub joined : ℕ → Vars → VarId → Vars
-joined cap v id =
-    pick (ltb cap v.count) v
-    (pick (ltb (row_of (held_ids v) id) v.count) v
-    (record { ids = pick (ltb v.count cap) (set v.ids v.count id) v.ids; count = v.count + 1 }))
-
--- one id after the other
-unfoldable pub joined_all : ℕ → Vars → List VarId → Vars
-joined_all cap v [] = v
-joined_all cap v (x ∷ xs) = joined_all cap (joined cap v x) xs
+-- a table that an id found room in, or none
+abbrev pub told : Bool → Vars → Option Vars
+told found v = pick found (Some v) Nothing
 
 -- the table of the statements before the first that names a variable beyond m, and its place
 abbrev pub named_of : ℕ → List Stmt → Naming

@@ -1,4 +1,3 @@
-pub mod Laws
 pub mod Halves
+pub mod Laws
 pub mod Powers
-pub mod Products

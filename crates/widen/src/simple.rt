@@ -2,7 +2,6 @@
 ghost use Rattle.std.specs.Prelude.{◌≡◌};
 ghost use Rattle.widen.specs.Simple.{jump_of, exit_of};
 
-use bit_vec::known::Constant;
 use pcode::block::Stmt;
 use pcode::var::{Operand, PcodeLabel, VarNode};
 
@@ -16,40 +15,25 @@ pub enum Simple {
     Copies(VarNode, Operand),
     // The statement with its operands replaced.
     Stays(Stmt),
-    // The evaluator's refusals.
-    TooFar,
-    BadSizes,
 }
 
 // An internal branch: dropped with known 0, skipping with known 1.
-pub fn jump(c: Constant, label: PcodeLabel, s: Stmt) -> Simple
+pub fn jump(c: Option<u64>, label: PcodeLabel, s: Stmt) -> Simple
     ensures { result ≡ jump_of c label s }
 {
     match c {
-        Constant::Open => Simple::Stays(s),
-        Constant::Known(k) => {
-            if k == 0 {
-                return Simple::Dropped;
-            }
-            if k == 1 {
-                return Simple::Skips(label);
-            }
-            Simple::Stays(s)
-        }
+        Some(0) => Simple::Dropped,
+        Some(1) => Simple::Skips(label),
+        _ => Simple::Stays(s),
     }
 }
 
 // An exit: dropped with known 0.
-pub fn exit(c: Constant, s: Stmt) -> Simple
+pub fn exit(c: Option<u64>, s: Stmt) -> Simple
     ensures { result ≡ exit_of c s }
 {
     match c {
-        Constant::Open => Simple::Stays(s),
-        Constant::Known(k) => {
-            if k == 0 {
-                return Simple::Dropped;
-            }
-            Simple::Stays(s)
-        }
+        Some(0) => Simple::Dropped,
+        _ => Simple::Stays(s),
     }
 }

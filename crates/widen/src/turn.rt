@@ -5,6 +5,7 @@ ghost use Rattle.widen.specs.Turn.{turn_of, turn_call};
 use pcode::op::{CallOp, Op};
 use pcode::var::PcodeLabel;
 
+// A label and a branch come with their label; plain operations have no rule of their own.
 #[derive(Clone, Copy)]
 pub enum Turn {
     Plain,
@@ -15,41 +16,26 @@ pub enum Turn {
     Hook,
 }
 
+// `Hook` and `HookIf` are hooks.
 fn turn_call(op: CallOp) -> Turn
     ensures { result ≡ turn_call op }
 {
     match op {
-        CallOp::Arg => Turn::Plain,
-        CallOp::PcodeOp => Turn::Plain,
-        CallOp::Hook => Turn::Hook,
-        CallOp::HookIf => Turn::Hook,
-        CallOp::TracerLoad => Turn::Plain,
-        CallOp::TracerStore => Turn::Plain,
+        CallOp::Hook | CallOp::HookIf => Turn::Hook,
+        CallOp::Arg | CallOp::PcodeOp | CallOp::TracerLoad | CallOp::TracerStore => Turn::Plain,
     }
 }
 
+// Markers, labels, the two kinds of branches and hooks have rules of their own.
 pub fn turn_of(op: Op) -> Turn
     ensures { result ≡ turn_of op }
 {
     match op {
-        Op::Trap(_) => Turn::Plain,
         Op::InstructionMarker => Turn::Marker,
         Op::PcodeLabel(l) => Turn::Label(l),
         Op::PcodeBranch(l) => Turn::Jump(l),
         Op::Branch(_) => Turn::Exit,
-        Op::Load(_) => Turn::Plain,
-        Op::Store(_) => Turn::Plain,
         Op::Call(k, _) => turn_call(k),
-        Op::Select(_) => Turn::Plain,
-        Op::Subpiece(_) => Turn::Plain,
-        Op::Opaque(_) => Turn::Plain,
-        Op::Float(_) => Turn::Plain,
-        Op::One(_) => Turn::Plain,
-        Op::Two(_) => Turn::Plain,
-        Op::Divide(_) => Turn::Plain,
-        Op::Shift(_) => Turn::Plain,
-        Op::Rotate(_) => Turn::Plain,
-        Op::Compare(_) => Turn::Plain,
-        Op::Bool(_) => Turn::Plain,
+        _ => Turn::Plain,
     }
 }

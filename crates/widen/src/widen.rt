@@ -1,45 +1,63 @@
 // The statements that go into the result, widened where 01 says so.
 ghost use Rattle.std.specs.Prelude.{◌≡◌, ℕ, ◌+◌, ◌*◌, ◌<◌, ◌≤◌, length};
 ghost use Rattle.const_eval.specs.Known.{Within};
-ghost use Rattle.widen.specs.Widen.{nothing_m, one_m, two_m, refused_m, zeros_above, is_power, widened_of, copied_of, kept_of, stays_of, made_of, InRows, InSimple};
+ghost use Rattle.widen.specs.Widen.{refusal_of, why_of, nothing_m, one_m, two_m, zeros_above, is_power, widened_of, lowest, copied_of, kept_of, stays_of, made_of, InRows, InSimple};
 
 use crate::simple::Simple;
 use bit_vec::known::known_trailing_zeros;
 use const_eval::place::Place;
+use eval::EvalError;
 use pcode::block::Stmt;
 use pcode::op::{OneOp, Op};
+use pcode::refusal::Refusal;
 use pcode::var::{Operand, Output, PcodeLabel, VarId, VarNode};
 use uses::place;
 use vars::Vars;
 
-// What a skip is looking for.
-#[derive(Clone, Copy)]
-pub enum Skip {
-    None,
-    To(PcodeLabel),
-}
-
-// Why a statement is refused: 8, 5 or 9.
+// Why a statement is refused.
 #[derive(Clone, Copy)]
 pub enum Why {
-    Fine,
     TooFar,
     BadSizes,
     NoTemporary,
 }
 
-// What a statement gives: the first `count` of two statements, blank where there is none, a skip that begins, or a refusal.
+impl Why {
+    // The refusal of the statement at `place`: 8, 5 or 9.
+    pub fn refusal(self, place: usize) -> Refusal
+        ensures { result ≡ refusal_of self place }
+    {
+        match self {
+            Why::TooFar => Refusal::RotateTooFar(place),
+            Why::BadSizes => Refusal::BadSizes(place),
+            Why::NoTemporary => Refusal::NoTemporary(place),
+        }
+    }
+}
+
+impl From<EvalError> for Why {
+    ghost from_gives = { λ e w. w ≡ why_of e };
+
+    fn from(e: EvalError) -> Why {
+        match e {
+            EvalError::RotateTooFar => Why::TooFar,
+            EvalError::BadSizes => Why::BadSizes,
+        }
+    }
+}
+
+// What a statement gives: the first `count` of two statements, blank where there is none, and the label that a skip looks for.
+// Two fields, and no list of two with its length: a step stores both after the result so far, and moves on by the count.
 #[derive(Clone, Copy)]
 pub struct Made {
     pub count: usize,
     pub first: Stmt,
     pub second: Stmt,
-    pub skip: Skip,
-    pub why: Why,
+    pub skip: Option<PcodeLabel>,
 }
 
 impl Made {
-    pub fn nothing(skip: Skip) -> Made
+    pub fn nothing(skip: Option<PcodeLabel>) -> Made
         ensures { result ≡ nothing_m skip }
     {
         Made {
@@ -47,7 +65,6 @@ impl Made {
             first: Stmt::blank(),
             second: Stmt::blank(),
             skip,
-            why: Why::Fine,
         }
     }
 
@@ -58,8 +75,7 @@ impl Made {
             count: 1,
             first: s,
             second: Stmt::blank(),
-            skip: Skip::None,
-            why: Why::Fine,
+            skip: None,
         }
     }
 
@@ -70,20 +86,7 @@ impl Made {
             count: 2,
             first,
             second,
-            skip: Skip::None,
-            why: Why::Fine,
-        }
-    }
-
-    pub fn refused(why: Why) -> Made
-        ensures { result ≡ refused_m why }
-    {
-        Made {
-            count: 0,
-            first: Stmt::blank(),
-            second: Stmt::blank(),
-            skip: Skip::None,
-            why,
+            skip: None,
         }
     }
 }
@@ -93,121 +96,119 @@ fn zeros_above(store: &[u64], p: Place) -> usize
     requires { Within (length store.now) p }
     ensures { result ≡ zeros_above store.now p }
 {
-    let s = 128 * p.row + 8 * (p.offset + p.size);
-    let e = 128 * p.row + 128;
-    known_trailing_zeros(&store[s..e]) / 8
+    let start = 128 * p.row + 8 * (p.offset + p.size);
+    known_trailing_zeros(&store[start..128 * p.row + 128]) / 8
 }
 
+// The powers of two that a widened size can be.
 fn is_power(n: usize) -> bool
     ensures { result ≡ is_power n }
 {
-    if n == 2 {
-        return true;
-    }
-    if n == 4 {
-        return true;
-    }
-    if n == 8 {
-        return true;
-    }
-    n == 16
+    matches!(n, 2 | 4 | 8 | 16)
 }
 
-// The widened size; 0 for none. z is the longest run of zero bytes, and no smaller one is tried.
-fn widened(store: &[u64], p: Place) -> usize
+// The widened size, if there is one. z is the longest run of zero bytes, and no smaller one is tried.
+fn widened(store: &[u64], p: Place) -> Option<u8>
     requires { Within (length store.now) p }
     ensures { result ≡ widened_of store.now p }
 {
-    if p.offset != 0 {
-        return 0;
-    }
     let z = zeros_above(store, p);
-    if z == 0 {
-        return 0;
-    }
     let w = p.size + z;
-    if is_power(w) {
-        return w;
+    if p.offset == 0 && z != 0 && is_power(w) {
+        Some(w as u8)
+    } else {
+        None
     }
-    0
 }
 
-// A known value, written at the widened size.
-fn copied(o: VarNode, w: usize, value: Operand) -> Stmt
-    requires { w ≤ 16 }
+// The lowest `w` bytes of an output's variable.
+fn lowest(o: VarNode, w: u8) -> Output
+    ensures { result ≡ lowest o w }
+{
+    Some(VarNode {
+        id: o.id,
+        offset: 0,
+        size: w,
+    })
+}
+
+// A known value, written at its own size or widened.
+fn copied(o: VarNode, w: Option<u8>, value: Operand) -> Stmt
     ensures { result ≡ copied_of w o value }
 {
-    if w == 0 {
-        return Stmt::new(Op::One(OneOp::Copy), Output::Var(o), value, Operand::None);
-    }
-    let size = w as u8;
-    let output = Output::var(o.id, 0, size);
+    let Some(w) = w else {
+        return Stmt::new(Op::One(OneOp::Copy), Some(o), value, Operand::None);
+    };
+    let output = lowest(o, w);
     match value {
-        Operand::None => Stmt::new(Op::One(OneOp::ZeroExtend), output, value, Operand::None),
         Operand::Const(k, _) => Stmt::new(
             Op::One(OneOp::Copy),
             output,
-            Operand::Const(k, size),
+            Operand::Const(k, w),
             Operand::None,
         ),
-        Operand::Var(_) => Stmt::new(Op::One(OneOp::ZeroExtend), output, value, Operand::None),
+        _ => Stmt::new(Op::One(OneOp::ZeroExtend), output, value, Operand::None),
     }
 }
 
 // Another value: as it is, or to an added temporary and a `ZeroExtend`; the temporary is one below `least`.
-fn kept(s: Stmt, o: VarNode, w: usize, least: VarId) -> Made
-    requires { w ≤ 16 }
+fn kept(s: Stmt, o: VarNode, w: Option<u8>, least: VarId) -> Result<Made, Why>
     ensures { result ≡ kept_of w s o least }
 {
-    if w == 0 {
-        return Made::one(s);
-    }
+    let Some(w) = w else {
+        return Ok(Made::one(s));
+    };
     let id = least.below();
-    if id.same(least) {
-        return Made::refused(Why::NoTemporary);
+    if id == least {
+        return Err(Why::NoTemporary);
     }
-    let op = s.op;
-    let size = w as u8;
-    let first = s.first;
-    let second = s.second;
-    Made::two(
-        Stmt::new(op, Output::var(id, 0, o.size), first, second),
+    Ok(Made::two(
+        Stmt::new(
+            s.op,
+            Some(VarNode {
+                id,
+                offset: 0,
+                size: o.size,
+            }),
+            s.first,
+            s.second,
+        ),
         Stmt::new(
             Op::One(OneOp::ZeroExtend),
-            Output::var(o.id, 0, size),
+            lowest(o, w),
             Operand::var(id, 0, o.size),
             Operand::None,
         ),
-    )
+    ))
 }
 
-fn stays(store: &[u64], vars: Vars, s: Stmt, least: VarId) -> Made
-    requires { InRows (length store.now) vars s.output }
-    ensures { result ≡ stays_of store.now vars s.output s least }
+// A statement that stays.
+fn stays(store: &[u64], vars: &Vars, s: Stmt, least: VarId) -> Result<Made, Why>
+    requires { InRows (length store.now) vars.now s.output }
+    ensures { result ≡ stays_of store.now vars.now s.output s least }
 {
-    let output = s.output;
-    match output {
-        Output::None => Made::one(s),
-        Output::Var(o) => {
-            let w = widened(store, place(vars, o));
-            kept(s, o, w, least)
-        }
+    match s.output {
+        None => Ok(Made::one(s)),
+        Some(o) => kept(s, o, widened(store, place(vars, o)), least),
     }
 }
 
-pub fn widen(store: &[u64], vars: Vars, x: Simple, least: VarId) -> Made
-    requires { InSimple (length store.now) vars x }
-    ensures { result ≡ made_of store.now vars x least }
+// What a statement gives to the result, by what it comes to.
+pub fn widen(
+    store: &[u64],
+    vars: &Vars,
+    x: Result<Simple, EvalError>,
+    least: VarId,
+) -> Result<Made, Why>
+    requires { InSimple (length store.now) vars.now x }
+    ensures { result ≡ made_of store.now vars.now x least }
 {
-    match x {
-        Simple::Dropped => Made::nothing(Skip::None),
-        Simple::Skips(l) => Made::nothing(Skip::To(l)),
+    match x? {
+        Simple::Dropped => Ok(Made::nothing(None)),
+        Simple::Skips(l) => Ok(Made::nothing(Some(l))),
         Simple::Copies(o, value) => {
-            let w = widened(store, place(vars, o));
-            Made::one(copied(o, w, value))
+            Ok(Made::one(copied(o, widened(store, place(vars, o)), value)))
         }
         Simple::Stays(s) => stays(store, vars, s, least),
-        Simple::TooFar => Made::refused(Why::TooFar),
-        Simple::BadSizes => Made::refused(Why::BadSizes),
     }
 }

@@ -1,8 +1,7 @@
-use borrow.Author.Tests.{lt-ltb, le-ltb}
+use Rattle.std.proofs.Common.{◌+◌, arith, ltb, ltb-true, ltb-false}
+use Rattle.vars.proofs.Rows.{ways}
 use Rattle.live_bytes.proofs.end_byte.Goals as goal
 
-pub returns-then-e-lt16 : goal.returns-then-e-lt16
-returns-then-e-lt16 c = simp (lt-ltb _ _ c.if-e-lt16.true)
-
 pub returns : goal.returns
-returns c = simp (le-ltb _ _ c.if-e-lt16.false)
+returns c = let v = c.args.var in
+    ways (ltb (v.offset + v.size) 16) (λ t. let h = ltb-true (v.offset + v.size) 16 t in rw t (omega arith)) (λ t. let h = ltb-false (v.offset + v.size) 16 t in rw t (omega arith))

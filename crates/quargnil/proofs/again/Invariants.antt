@@ -1,11 +1,7 @@
-use Prim.Native.Nat.{◌≤◌, ◌-◌}
-use mathlib.Core.Path.{◌≡◌}
+use Rattle.std.proofs.Common.{◌≡◌}
 use Rattle.front.specs.Front.{treat_of}
-use Rattle.quargnil.specs.Answers.{repeated_of}
+use Rattle.quargnil.specs.Answers.{repeated_of, count_of}
 use Rattle.quargnil.proofs.again.Given as goal
 
-abbrev pub invariant-loop-i : goal.invariant-loop-i
-invariant-loop-i l = (l.i ≤ l.times) × (l.count ≡ repeated_of l.i (treat_of l.pass l.block l.marks).block.count)
-
-abbrev pub decreases-loop-i : goal.decreases-loop-i
-decreases-loop-i l = l.times - l.i
+abbrev pub invariant-loop : goal.invariant-loop
+invariant-loop l = l.last ≡ repeated_of l.counter (count_of (treat_of l.pass l.block l.marks) l.block)

@@ -1,13 +1,9 @@
-use Prim.Native.Nat.{ℕ}
-use mathlib.Core.Path.{ap, ◌∙◌}
-use mathlib.Core.List.{List, []}
-use lib.ListN.{get_or}
+use Rattle.std.proofs.Common.{ℕ, ap, ◌∙◌, List, [], get_or, set}
 use lib.Seq.{paste}
-use lib.ListN.{set}
 use Rattle.state.specs.Bytes.{write_of}
 use Rattle.state.proofs.write.Goals as goal
 
 pub returns : goal.returns
 unfolding write_of
 returns c = let x = c.args in
-    ap (set x.state x.row) (c.splice.ensures ∙ ap (λ (l : List ℕ). paste (get_or x.state x.row []) x.offset l x.size) c.bytes-new.ensures)
+    ap (set x.state x.row) (c.splice.ensures ∙ ap (λ (l : List ℕ). paste (get_or x.state x.row []) x.offset l x.size) c.bytes.ensures)

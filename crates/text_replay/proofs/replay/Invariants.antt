@@ -1,10 +1,5 @@
-use Prim.Native.Nat.{◌-◌}
-use mathlib.Core.Path.{◌≡◌}
-use lib.ListN.{length}
+use Rattle.std.proofs.Common.{◌≡◌, length}
 use Rattle.text_replay.proofs.replay.Given as goal
 
-abbrev pub invariant-loop-at : goal.invariant-loop-at
-invariant-loop-at l = length l.out ≡ length l.initial.out
-
-abbrev pub decreases-loop-at : goal.decreases-loop-at
-decreases-loop-at l = length l.list - l.at
+abbrev pub invariant-loop-s : goal.invariant-loop-s
+invariant-loop-s l = length l.out ≡ length l.initial.out

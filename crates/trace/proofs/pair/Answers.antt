@@ -1,8 +1,7 @@
-use native.Mathlib.Omega.{arith}
+use Rattle.std.proofs.Common.{arith, rules}
 use Rattle.wide.specs.Value.{value_of}
 use Rattle.print.proofs.Writes.{then, retold}
 use Rattle.trace.proofs.Words.{halved}
-use borrow.Author.Rules.{rules}
 use Rattle.trace.proofs.pair.Goals as goal
 
 pub returns : goal.returns

@@ -1,8 +1,4 @@
-use native.Mathlib.Omega.{arith}
-use mathlib.Core.Path.{sym, ap, ◌∙◌}
-use mathlib.Core.Bool.{Bool}
-use mathlib.Core.List.{[]}
-use lib.ListN.{take}
+use Rattle.std.proofs.Common.{arith, sym, ap, ◌∙◌, Bool, [], take}
 use Rattle.pcode.specs.Var.{pick}
 use Rattle.state.specs.Bytes.{num_of}
 use Rattle.print.proofs.Writes.{none, retold}

@@ -1,4 +1,4 @@
-use native.Mathlib.Omega.{arith}
+use Rattle.std.proofs.Common.{arith}
 use Rattle.print.proofs.Writes.{then}
 use Rattle.trace.specs.Words.{state_words}
 use Rattle.trace.proofs.shown.Goals as goal

@@ -1,12 +1,8 @@
-use Prim.Native.Nat.{◌≤◌}
-use mathlib.Core.Path.{◌≡◌}
-use lib.ListN.{length, drop}
+use Rattle.std.proofs.Common.{◌≡◌}
 use Rattle.bit_vec.specs.Lists.{bits}
 use Rattle.bit_vec.specs.Known.{least}
+use Rattle.bit_vec.proofs.Fold.{Down}
 use Rattle.bit_vec.proofs.known.min.Given as goal
 
-abbrev pub invariant-loop-i : goal.invariant-loop-i
-invariant-loop-i l = (l.n ≡ least (bits (drop l.i l.s))) × (l.i ≤ length l.s)
-
-abbrev pub decreases-loop-i : goal.decreases-loop-i
-decreases-loop-i l = l.i
+abbrev pub invariant-loop-c : goal.invariant-loop-c
+invariant-loop-c l = Down (λ d. l.n ≡ least (bits d)) l.s l.c-iterator.iter.rest.now

@@ -1,11 +1,10 @@
-use Prim.Native.Nat.{◌≤◌, ◌-◌}
-use mathlib.Core.Path.{◌≡◌}
-use lib.ListN.{length, drop}
+use Rattle.std.proofs.Common.{◌≡◌, ◌+◌, ◌≤◌, length}
 use Rattle.bit_vec.specs.Lists.{bits, eq_from, eq_bits}
 use Rattle.bit_vec.proofs.logic.is_eq.Given as goal
 
-abbrev pub invariant-loop-i : goal.invariant-loop-i
-invariant-loop-i l = (l.undecided ≤ l.i) × (eq_from (bits (drop l.i l.a)) (bits (drop l.i l.b)) l.undecided l.last ≡ eq_bits (bits l.a) (bits l.b))
-
-abbrev pub decreases-loop-i : goal.decreases-loop-i
-decreases-loop-i l = length l.a - l.i
+abbrev pub invariant-loop-x : goal.invariant-loop-x
+invariant-loop-x l = record {
+  long : length l.x-iterator.a.rest.now ≡ length l.x-iterator.b.rest.now;
+  few : l.undecided + length l.x-iterator.a.rest.now ≤ length l.a;
+  to_come : eq_from (bits l.x-iterator.a.rest.now) (bits l.x-iterator.b.rest.now) l.undecided l.last ≡ eq_bits (bits l.a) (bits l.b);
+}

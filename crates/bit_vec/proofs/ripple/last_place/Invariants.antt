@@ -1,11 +1,9 @@
+use Rattle.std.proofs.Common.{◌≡◌, length}
 use Rattle.bit_vec.specs.Lists.{bits, scanned, place_step, last_place}
-use mathlib.Core.Path.{◌≡◌}
-use lib.ListN.{length, drop}
-use Prim.Native.Nat.{◌-◌, ◌≤◌}
 use Rattle.bit_vec.proofs.ripple.last_place.Given as goal
 
-abbrev pub invariant-loop-i : goal.invariant-loop-i
-invariant-loop-i l = (scanned (place_step l.op) l.p (bits (drop l.i l.a)) (bits (drop l.i l.b)) ≡ last_place l.op (bits l.a) (bits l.b)) × (l.i ≤ length l.a)
-
-abbrev pub decreases-loop-i : goal.decreases-loop-i
-decreases-loop-i l = length l.a - l.i
+abbrev pub invariant-loop-x : goal.invariant-loop-x
+invariant-loop-x l = record {
+  long : length l.x-iterator.a.rest.now ≡ length l.x-iterator.b.rest.now;
+  to_come : scanned (place_step l.op) l.p (bits l.x-iterator.a.rest.now) (bits l.x-iterator.b.rest.now) ≡ last_place l.op (bits l.a) (bits l.b);
+}

@@ -1,8 +1,5 @@
-use Rattle.bit_vec.proofs.Shifted.{put_length, up_law}
+use Rattle.bit_vec.proofs.Shifted.{up_law}
 use Rattle.bit_vec.proofs.shift.shift_up.Goals as goal
-
-pub slice_bounds-repeat-end-2 : goal.slice_bounds-repeat-end-2
-slice_bounds-repeat-end-2 c = put_length c.args.out.now c.copy_any.new.out c.args.k c.requires.1
 
 pub returns : goal.returns
 returns c = up_law c.args.out.now c.args.a.now _ _ c.args.k _ c.requires.0 c.requires.1 (rw c.encode-zero.ensures at c.copy_any.ensures) (rw c.encode-zero.ensures at c.repeat.ensures)

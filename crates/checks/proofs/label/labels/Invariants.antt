@@ -1,11 +1,6 @@
-use Prim.Native.Nat.{◌≤◌, ◌-◌}
-use mathlib.Core.Path.{◌≡◌}
-use lib.ListN.{take, drop}
+use Rattle.std.proofs.Common.{◌≡◌, drop}
 use Rattle.checks.specs.Labels.{labels_from}
 use Rattle.checks.proofs.label.labels.Given as goal
 
 abbrev pub invariant-loop-i : goal.invariant-loop-i
-invariant-loop-i l = (l.i ≤ 129) × (labels_from (take l.n l.stmts) 0 (take l.n l.stmts) ≡ labels_from (take l.n l.stmts) l.i (drop l.i (take l.n l.stmts)))
-
-abbrev pub decreases-loop-i : goal.decreases-loop-i
-decreases-loop-i l = 129 - l.i
+invariant-loop-i l = labels_from l.stmts 0 l.stmts ≡ labels_from l.stmts l.i (drop l.i l.stmts)

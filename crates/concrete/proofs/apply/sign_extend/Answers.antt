@@ -1,14 +1,8 @@
-use native.Mathlib.Omega.{arith}
-use Prim.Native.Nat.{ℕ, ◌+◌, ◌-◌, ◌%◌, ◌^◌, ◌≤◌}
-use mathlib.Core.Path.{sym, ap, ◌∙◌, subst}
-use borrow.Author.Tests.{not-true, not-false}
+use Rattle.std.proofs.Common.{arith, ℕ, ◌+◌, ◌-◌, ◌%◌, ◌^◌, ◌≤◌, sym, ap, ◌∙◌, subst, pow_mono}
+use borrow.Author.Tests.{not-false}
 use Rattle.wide.specs.Value.{value_of}
-use lib.Pow.{pow_mono}
 use Rattle.concrete.proofs.Widths.{extended}
 use Rattle.concrete.proofs.apply.sign_extend.Goals as goal
-
-pub returns-then-not-sign_at : goal.returns-then-not-sign_at
-returns-then-not-sign_at c = sym (simp (sym c.sign_at.ensures ∙ not-true _ c.if-not-sign_at.true-raw))
 
 pub minus-high-requires : goal.minus-high-requires
 minus-high-requires c = let m = pow_mono {i = c.args.w} {j = c.args.o} c.requires.1 in

@@ -1,6 +1,4 @@
-use Prim.Native.Nat.{ℕ, ◌^◌}
-use mathlib.Core.Path.{ap, ◌∙◌}
-use lib.Dec.{ltb}
+use Rattle.std.proofs.Common.{ℕ, ◌^◌, ap, ◌∙◌, ltb}
 use Rattle.wide.specs.Value.{value_of}
 use Rattle.concrete.proofs.Signs.{carries}
 use Rattle.concrete.proofs.compare.carry.Goals as goal

@@ -1,15 +1,11 @@
-use mathlib.Core.Bool.{true, false}
-use Rattle.concrete.proofs.Signs.{signed_borrow}
+use Rattle.std.proofs.Common.{◌∙◌, sym}
+use Rattle.concrete.proofs.Signs.{signed_borrow, borrow_unlike, borrow_alike}
 use Rattle.concrete.proofs.compare.signed_borrow.Goals as goal
 
-pub returns-then-sign_at-2 : goal.returns-then-sign_at-2
-returns-then-sign_at-2 c = cc (signed_borrow c.requires true true (cc) (cc))
+pub returns-then-x-sign_at : goal.returns-then-x-sign_at
+returns-then-x-sign_at c =
+    rw (c.sign_at-then-x-sign_at.ensures, c.sub_at.ensures)
+    (sym (signed_borrow c.requires _ _ (sym c.sign_at-x.ensures) (sym c.sign_at.ensures) ∙ borrow_unlike _ _ _ c.if-x-sign_at.true))
 
-pub returns-then-sign_at : goal.returns-then-sign_at
-returns-then-sign_at c = cc (signed_borrow c.requires true false (cc) (cc))
-
-pub returns-then-sign_at-3 : goal.returns-then-sign_at-3
-returns-then-sign_at-3 c = cc (signed_borrow c.requires false true (cc) (cc))
-
-pub returns : goal.returns
-returns c = cc (signed_borrow c.requires false false (cc) (cc))
+pub returns-else-x-sign_at : goal.returns-else-x-sign_at
+returns-else-x-sign_at c = c.if-x-sign_at.false ∙ sym (signed_borrow c.requires _ _ (sym c.sign_at-x.ensures) (sym c.sign_at.ensures) ∙ borrow_alike _ _ _ c.if-x-sign_at.false)

@@ -1,8 +1,7 @@
-use Prim.Native.Nat.{◌+◌, ◌*◌, ◌^◌}
+use Rattle.std.proofs.Common.{◌+◌, ◌*◌, ◌^◌, rules}
 use Rattle.wide.specs.Value.{value_of}
 use Rattle.concrete.proofs.Widths.{exact}
 use Rattle.wide.proofs.Powers.{below_128}
-use borrow.Author.Rules.{rules}
 use Rattle.concrete.proofs.number.minus.Goals as goal
 
 pub returns : goal.returns

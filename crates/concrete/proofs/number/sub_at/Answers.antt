@@ -1,8 +1,6 @@
-use Prim.Native.Nat.{◌^◌}
-use mathlib.Core.Path.{◌∙◌}
+use Rattle.std.proofs.Common.{◌^◌, ◌∙◌, rules}
 use Rattle.wide.specs.Value.{value_of}
 use Rattle.concrete.proofs.Widths.{cut_cut, wraps}
-use borrow.Author.Rules.{rules}
 use Rattle.concrete.proofs.number.sub_at.Goals as goal
 
 pub returns : goal.returns

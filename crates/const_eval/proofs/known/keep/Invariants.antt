@@ -1,11 +1,7 @@
-use Prim.Native.Nat.{◌-◌}
-use lib.ListN.{length, drop}
-use Rattle.const_eval.specs.State.{keep_flags}
-use Rattle.bit_vec.proofs.Store.{Stored}
+use Rattle.std.proofs.Common.{◌≡◌, ℕ, ◌<◌, ◌≤◌, get_or}
+use Rattle.const_eval.specs.State.{flag_of}
 use Rattle.const_eval.proofs.known.keep.Given as goal
 
 abbrev pub invariant-loop-i : goal.invariant-loop-i
-invariant-loop-i l = Stored l.initial.used (keep_flags l.initial.used l.temp) (keep_flags (drop l.i l.initial.used) (drop l.i l.temp)) l.used l.i
-
-abbrev pub decreases-loop-i : goal.decreases-loop-i
-decreases-loop-i l = length l.initial.used - l.i
+invariant-loop-i l =
+    ((k : ℕ) → k < l.i → get_or l.used k 0 ≡ flag_of (get_or l.initial.used k 0) (get_or l.temp k 0)) × ((k : ℕ) → l.i ≤ k → get_or l.used k 0 ≡ get_or l.initial.used k 0)

@@ -1,4 +1,4 @@
-use mathlib.Core.Path.{refl}
+use Rattle.std.proofs.Common.{refl}
 use Rattle.const_eval.specs.Map.{place_at}
 use Rattle.const_eval.proofs.map.place_at.Goals as goal
 

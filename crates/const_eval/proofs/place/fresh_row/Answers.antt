@@ -1,6 +1,4 @@
-use Prim.Native.Nat.{ℕ, ◌*◌}
-use mathlib.Core.Path.{◌∙◌, ap}
-use mathlib.Core.List.{List}
+use Rattle.std.proofs.Common.{ℕ, ◌*◌, List, ◌∙◌, ap}
 use Rattle.const_eval.specs.Known.{splice, fresh_from, fresh_row}
 use Rattle.const_eval.proofs.Parts.{put_splice, slice_length}
 use Rattle.const_eval.proofs.place.fresh_row.Goals as goal

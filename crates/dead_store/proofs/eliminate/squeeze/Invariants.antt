@@ -1,10 +1,6 @@
-use Prim.Native.Nat.{◌≤◌, ◌-◌}
 use Rattle.pcode.specs.Block.{blank_stmt, blank_stmts}
 use Rattle.dead_store.proofs.Sifting.{Sifted}
 use Rattle.dead_store.proofs.eliminate.squeeze.Given as goal
 
 abbrev pub invariant-loop-i : goal.invariant-loop-i
-invariant-loop-i l = (l.i ≤ l.n) × Sifted l.dead l.stmts blank_stmts blank_stmt l.i l.k l.out
-
-abbrev pub decreases-loop-i : goal.decreases-loop-i
-decreases-loop-i l = l.n - l.i
+invariant-loop-i l = Sifted l.dead l.stmts blank_stmts blank_stmt l.i l.out.count l.out.stmts

@@ -1,5 +1,4 @@
-use mathlib.Core.Path.{sym}
-use lib.Seq.{length-take-le}
+use Rattle.std.proofs.Common.{sym, length-take-le}
 use Rattle.fields.proofs.Parts.{placed}
 use Rattle.fields.proofs.part.head.Goals as goal
 

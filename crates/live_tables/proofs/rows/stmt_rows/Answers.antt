@@ -3,4 +3,4 @@ use Rattle.live_tables.proofs.rows.stmt_rows.Goals as goal
 
 pub returns : goal.returns
 unfolding rows_of
-returns c = rw (c.row_in-b.ensures, c.row_in-a.ensures, c.row_in-out.ensures, c.operand-o.ensures)
+returns c = rw (c.row_in.ensures, c.row_in-2.ensures, c.row_in-3.ensures, c.from.ensures)

@@ -1,4 +1,4 @@
-use mathlib.Core.Path.{refl}
+use Rattle.std.proofs.Common.{refl}
 use Rattle.live_tables.specs.Tables.{no_flags}
 use Rattle.live_tables.proofs.tables.no_flags.Goals as goal
 

@@ -1,7 +1,4 @@
-use native.Mathlib.Omega.{arith}
-use Prim.Native.Nat.{ℕ}
-use mathlib.Core.Path.{ap}
-use mathlib.Core.List.{[], ◌∷◌, ◌++◌}
+use Rattle.std.proofs.Common.{arith, ℕ, ap, [], ◌∷◌, ◌++◌}
 use Rattle.pcode.specs.Names.{name_of, number_of}
 use Rattle.print.specs.Texts.{number_text}
 use Rattle.print.specs.Printing.{op_text}

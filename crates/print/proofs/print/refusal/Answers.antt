@@ -1,9 +1,5 @@
 use Rattle.pcode.specs.Refusals.{refusal_number}
-use native.Mathlib.Omega.{arith}
-use Prim.Native.Nat.{ℕ}
-use mathlib.Core.Path.{refl, ap, ◌∙◌}
-use mathlib.Core.List.{[], ◌∷◌, ◌++◌}
-use borrow.Author.Tests.{lt-ltb}
+use Rattle.std.proofs.Common.{arith, ℕ, refl, ap, ◌∙◌, [], ◌∷◌, ◌++◌, lt-ltb}
 use Rattle.pcode.specs.Names.{bytes_of}
 use Rattle.print.specs.Texts.{digits_text}
 use Rattle.print.specs.Printing.{refusal_text}

@@ -1,7 +1,4 @@
-use Prim.Native.Nat.{ℕ, ◌-◌, ◌/◌}
-use native.Mathlib.Omega.{arith}
-use mathlib.Core.Path.{ap, ◌∙◌}
-use mathlib.Core.List.{[], ◌∷◌, ◌++◌}
+use Rattle.std.proofs.Common.{ℕ, ◌-◌, ◌/◌, arith, ap, ◌∙◌, [], ◌∷◌, ◌++◌}
 use Rattle.print.specs.Texts.{digits_text}
 use Rattle.print.proofs.Writes.{then, retold, none, no_digit, last_digit, more_digits}
 use Rattle.print.proofs.put.+decimal.Goals as goal

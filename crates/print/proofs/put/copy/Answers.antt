@@ -1,21 +1,7 @@
-use borrow.Author.Rules.{rules}
-use native.Mathlib.Omega.{arith}
-use mathlib.Core.Path.{refl, sym, ap, ◌∙◌}
-use lib.ListN.{length-set}
-use lib.Seq.{take_all}
-use Rattle.print.specs.Texts.{written}
-use Rattle.print.proofs.Writes.{written_none, row_more}
+use Rattle.std.proofs.Common.{arith}
+use Rattle.print.proofs.Writes.{copied}
 use Rattle.print.proofs.put.copy.Goals as goal
-
-pub loop-i-init : goal.loop-i-init
-loop-i-init c = (search rules, search rules, c.requires, sym (written_none _ c.args.at))
-
-pub loop-i-preserved : goal.loop-i-preserved
-loop-i-preserved c = let a = c.args in
-    let l = c.loop-i in
-    (search rules, simp length-set l.invariant.1, search rules, rw l.invariant.3 (row_more a.out.now a.at a.s.now l.i (omega arith) (omega arith)))
 
 pub returns : goal.returns
 returns c = let a = c.args in
-    let l = c.loop-i in
-    record { place = refl; bytes = l.invariant.3 ∙ ap (written a.out.now a.at) (take_all l.i a.s.now (omega arith)); kept = l.invariant.1; width = omega arith }
+    copied a.out.now a.at _ a.s.now c.copy_from_slice.new.self c.requires (omega arith) c.copy_from_slice.ensures.after

@@ -1,5 +1,4 @@
-use native.Mathlib.Omega.{arith}
-use mathlib.Core.Path.{sym, ap, ◌∙◌}
+use Rattle.std.proofs.Common.{arith, sym, ap, ◌∙◌}
 use Rattle.print.specs.Texts.{number_text}
 use Rattle.print.proofs.Writes.{retold}
 use Rattle.print.proofs.put.number.Goals as goal

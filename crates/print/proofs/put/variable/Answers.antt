@@ -1,4 +1,4 @@
-use native.Mathlib.Omega.{arith}
+use Rattle.std.proofs.Common.{arith}
 use Rattle.print.specs.Texts.{var_text}
 use Rattle.print.proofs.Writes.{then}
 use Rattle.print.proofs.put.variable.Goals as goal

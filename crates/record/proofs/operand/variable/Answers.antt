@@ -1,34 +1,25 @@
-use native.Mathlib.Omega.{arith}
-use mathlib.Core.Path.{sym, ◌∙◌}
-use borrow.Author.Tests.{eq-eqb, ne_eqb}
+use Rattle.std.proofs.Common.{sym, ◌∙◌, eq-eqb, ne_eqb}
 use Rattle.fields.specs.Decimals.{decimal_of}
-use Rattle.fields.proofs.Decimals.{bounded}
-use Rattle.record.specs.Operands.{id_of, var_of}
 use Rattle.record.proofs.Known.{known}
+use Rattle.record.specs.Operands.{id_of, var_of}
 use Rattle.record.proofs.operand.variable.Goals as goal
 
 pub returns-then-count-ne2 : goal.returns-then-count-ne2
 unfolding var_of
 returns-then-count-ne2 c = simp (ne_eqb _ _ (λ e. c.if-count-ne2.true (c.count.ensures ∙ e)))
 
-pub returns-in_default : goal.returns-in_default
+pub returns-in_err-v : goal.returns-in_err-v
 unfolding var_of
-returns-in_default c = simp (eq-eqb _ _ (sym c.count.ensures ∙ c.if-count-ne2.false), known id_of c.part.ensures c.id.ensures c.in_default.is)
+returns-in_err-v c = rw c.from_residual.ensures (simp (eq-eqb _ _ (sym c.count.ensures ∙ c.if-count-ne2.false), known id_of c.part.ensures c.id.ensures c.in_err-v.was))
 
-pub returns-in_default-decimal : goal.returns-in_default-decimal
+pub returns-in_err-offset : goal.returns-in_err-offset
 unfolding var_of
-returns-in_default-decimal c = simp (eq-eqb _ _ (sym c.count.ensures ∙ c.if-count-ne2.false), known id_of c.part.ensures c.id.ensures c.in-Good.is, known (decimal_of 255) c.part-2.ensures c.decimal.ensures c.in_default-decimal.is)
+returns-in_err-offset c = rw c.from_residual-in_err-offset.ensures (simp (eq-eqb _ _ (sym c.count.ensures ∙ c.if-count-ne2.false), known id_of c.part.ensures c.id.ensures c.in_ok-v.was, known (decimal_of 255) c.part-2.ensures c.byte.ensures c.in_err-offset.was))
 
-pub returns-in_default-decimal-2 : goal.returns-in_default-decimal-2
+pub returns-in_err-size : goal.returns-in_err-size
 unfolding var_of
-returns-in_default-decimal-2 c = simp (eq-eqb _ _ (sym c.count.ensures ∙ c.if-count-ne2.false), known id_of c.part.ensures c.id.ensures c.in-Good.is, known (decimal_of 255) c.part-2.ensures c.decimal.ensures c.in-Value.is, known (decimal_of 255) c.part-3.ensures c.decimal-2.ensures c.in_default-decimal-2.is)
-
-pub small-requires : goal.small-requires
-small-requires c = omega (arith, bounded 255 _ _ (sym c.decimal.ensures ∙ c.in-Value.is))
-
-pub small-requires-2 : goal.small-requires-2
-small-requires-2 c = omega (arith, bounded 255 _ _ (sym c.decimal-2.ensures ∙ c.in-Value-decimal.is))
+returns-in_err-size c = rw c.from_residual-in_err-size.ensures (simp (eq-eqb _ _ (sym c.count.ensures ∙ c.if-count-ne2.false), known id_of c.part.ensures c.id.ensures c.in_ok-v.was, known (decimal_of 255) c.part-2.ensures c.byte.ensures c.in_ok-offset.was, known (decimal_of 255) c.part-3.ensures c.byte-2.ensures c.in_err-size.was))
 
 pub returns : goal.returns
 unfolding var_of
-returns c = simp (c.small.ensures, c.small-2.ensures, eq-eqb _ _ (sym c.count.ensures ∙ c.if-count-ne2.false), known id_of c.part.ensures c.id.ensures c.in-Good.is, known (decimal_of 255) c.part-2.ensures c.decimal.ensures c.in-Value.is, known (decimal_of 255) c.part-3.ensures c.decimal-2.ensures c.in-Value-decimal.is)
+returns c = simp (eq-eqb _ _ (sym c.count.ensures ∙ c.if-count-ne2.false), known id_of c.part.ensures c.id.ensures c.in_ok-v.was, known (decimal_of 255) c.part-2.ensures c.byte.ensures c.in_ok-offset.was, known (decimal_of 255) c.part-3.ensures c.byte-2.ensures c.in_ok-size.was)

@@ -1,31 +1,40 @@
-use mathlib.Core.Path.{refl}
-use borrow.Author.Tests.{lt-ltb, le-ltb}
-use Rattle.record.specs.Names.{code_named}
-use Rattle.record.specs.Operands.{operand_of, output_of}
-use Rattle.record.specs.Records.{statement_of, number_in}
 use Rattle.record.proofs.Known.{known}
+use Rattle.record.specs.Operands.{operand_of, output_of}
+use Rattle.record.specs.Names.{code_read}
+use Rattle.record.specs.Records.{number_in, statement_of}
+use Rattle.record.proofs.Names.{code_some, code_none}
 use Rattle.record.proofs.record.statement.Goals as goal
 
-pub returns-then-k-ge72 : goal.returns-then-k-ge72
+pub returns-in_err-k : goal.returns-in_err-k
 unfolding statement_of
-returns-then-k-ge72 c = simp (known code_named c.part.ensures c.code-k.ensures refl, le-ltb c.code-k.result 72 c.if-k-ge72.true)
+returns-in_err-k c = rw c.from_residual.ensures (simp (code_none _ (known code_read c.part.ensures c.code.ensures c.in_err-k.was)))
 
-pub returns-in_default : goal.returns-in_default
+pub returns-in_err-n : goal.returns-in_err-n
 unfolding statement_of
-returns-in_default c = simp (known code_named c.part.ensures c.code-k.ensures refl, lt-ltb c.code-k.result 72 c.if-k-ge72.false, known (number_in c.code-k.result) c.part-2.ensures c.number.ensures c.in_default.is)
+returns-in_err-n c =
+    let e = code_some _ c.in_ok-k.k (known code_read c.part.ensures c.code.ensures c.in_ok-k.was) in
+    rw c.from_residual-in_err-n.ensures (simp (e.0, e.1, known (number_in c.in_ok-k.k) c.part-2.ensures c.number.ensures c.in_err-n.was))
 
-pub returns-in_default-output : goal.returns-in_default-output
+pub returns-in_err-o : goal.returns-in_err-o
 unfolding statement_of
-returns-in_default-output c = simp (known code_named c.part.ensures c.code-k.ensures refl, lt-ltb c.code-k.result 72 c.if-k-ge72.false, known (number_in c.code-k.result) c.part-2.ensures c.number.ensures c.in-Good.is, known output_of c.part-3.ensures c.output.ensures c.in_default-output.is)
+returns-in_err-o c =
+    let e = code_some _ c.in_ok-k.k (known code_read c.part.ensures c.code.ensures c.in_ok-k.was) in
+    rw c.from_residual-in_err-o.ensures (simp (e.0, e.1, known (number_in c.in_ok-k.k) c.part-2.ensures c.number.ensures c.in_ok-n.was, known output_of c.part-3.ensures c.output.ensures c.in_err-o.was))
 
-pub returns-in_default-operand : goal.returns-in_default-operand
+pub returns-in_err-a : goal.returns-in_err-a
 unfolding statement_of
-returns-in_default-operand c = simp (known code_named c.part.ensures c.code-k.ensures refl, lt-ltb c.code-k.result 72 c.if-k-ge72.false, known (number_in c.code-k.result) c.part-2.ensures c.number.ensures c.in-Good.is, known output_of c.part-3.ensures c.output.ensures c.in-Good-output.is, known operand_of c.part-4.ensures c.operand.ensures c.in_default-operand.is)
+returns-in_err-a c =
+    let e = code_some _ c.in_ok-k.k (known code_read c.part.ensures c.code.ensures c.in_ok-k.was) in
+    rw c.from_residual-in_err-a.ensures (simp (e.0, e.1, known (number_in c.in_ok-k.k) c.part-2.ensures c.number.ensures c.in_ok-n.was, known output_of c.part-3.ensures c.output.ensures c.in_ok-o.was, known operand_of c.part-4.ensures c.operand.ensures c.in_err-a.was))
 
-pub returns-in_default-operand-2 : goal.returns-in_default-operand-2
+pub returns-in_err-b : goal.returns-in_err-b
 unfolding statement_of
-returns-in_default-operand-2 c = simp (known code_named c.part.ensures c.code-k.ensures refl, lt-ltb c.code-k.result 72 c.if-k-ge72.false, known (number_in c.code-k.result) c.part-2.ensures c.number.ensures c.in-Good.is, known output_of c.part-3.ensures c.output.ensures c.in-Good-output.is, known operand_of c.part-4.ensures c.operand.ensures c.in-Good-operand.is, known operand_of c.part-5.ensures c.operand-2.ensures c.in_default-operand-2.is)
+returns-in_err-b c =
+    let e = code_some _ c.in_ok-k.k (known code_read c.part.ensures c.code.ensures c.in_ok-k.was) in
+    rw c.from_residual-in_err-b.ensures (simp (e.0, e.1, known (number_in c.in_ok-k.k) c.part-2.ensures c.number.ensures c.in_ok-n.was, known output_of c.part-3.ensures c.output.ensures c.in_ok-o.was, known operand_of c.part-4.ensures c.operand.ensures c.in_ok-a.was, known operand_of c.part-5.ensures c.operand-2.ensures c.in_err-b.was))
 
 pub returns : goal.returns
 unfolding statement_of
-returns c = simp (c.new.ensures, c.named.ensures, known code_named c.part.ensures c.code-k.ensures refl, lt-ltb c.code-k.result 72 c.if-k-ge72.false, known (number_in c.code-k.result) c.part-2.ensures c.number.ensures c.in-Good.is, known output_of c.part-3.ensures c.output.ensures c.in-Good-output.is, known operand_of c.part-4.ensures c.operand.ensures c.in-Good-operand.is, known operand_of c.part-5.ensures c.operand-2.ensures c.in-Good-operand-2.is)
+returns c =
+    let e = code_some _ c.in_ok-k.k (known code_read c.part.ensures c.code.ensures c.in_ok-k.was) in
+    simp (c.new.ensures, c.named.ensures, e.0, e.1, known (number_in c.in_ok-k.k) c.part-2.ensures c.number.ensures c.in_ok-n.was, known output_of c.part-3.ensures c.output.ensures c.in_ok-o.was, known operand_of c.part-4.ensures c.operand.ensures c.in_ok-a.was, known operand_of c.part-5.ensures c.operand-2.ensures c.in_ok-b.was)

@@ -2,4 +2,4 @@ use Rattle.widen.proofs.Sizes.{zeros_slice}
 use Rattle.widen.proofs.widen.zeros_above.Goals as goal
 
 pub returns : goal.returns
-returns c = let a = c.args in zeros_slice a.store.now a.p c.known_trailing_zeros.result c.requires.inside c.known_trailing_zeros.ensures
+returns c = zeros_slice c.args.store.now c.args.p c.known_trailing_zeros.result c.requires.inside c.known_trailing_zeros.ensures

@@ -1,15 +1,17 @@
-use borrow.Author.Tests.{lt-ltb, le-ltb, le-leb, lt-leb}
+use Rattle.std.proofs.Common.{lt-ltb, le-ltb, le-leb}
+use borrow.Author.Tests.{lt-leb}
 use Rattle.text.specs.Reading.{accepted_mark}
+use Rattle.text.proofs.answer.Read.mark.Goals.{then-self-gt0-via-then-self-gt0, then-self-gt0-via-else-self-gt0+then-at-ge16}
 use Rattle.text.proofs.answer.Read.mark.Goals as goal
 
-pub returns-then-block-gt0 : goal.returns-then-block-gt0
+pub returns-then-self-gt0 : goal.returns-then-self-gt0
 unfolding accepted_mark
-returns-then-block-gt0 c = simp (c.refused.ensures, lt-ltb _ _ c.if-block-gt0.true)
-
-pub returns-then-at-ge16 : goal.returns-then-at-ge16
-unfolding accepted_mark
-returns-then-at-ge16 c = simp (c.refused-then-at-ge16.ensures, le-ltb _ _ c.if-block-gt0.false, le-leb _ _ c.if-at-ge16.true)
+returns-then-self-gt0 c =
+    elim c.then-self-gt0.branch [
+      | then-self-gt0-via-then-self-gt0 w ↦ simp (lt-ltb _ _ w.if-self-gt0.true)
+      | then-self-gt0-via-else-self-gt0+then-at-ge16 w ↦ simp (le-ltb _ _ w.if-self-gt0.false, le-leb _ _ w.if-at-ge16.true)
+    ]
 
 pub returns : goal.returns
 unfolding accepted_mark
-returns c = simp (le-ltb _ _ c.if-block-gt0.false, lt-leb _ _ c.if-at-ge16.false)
+returns c = simp (le-ltb _ _ c.if-self-gt0.false, lt-leb _ _ c.if-at-ge16.false)

@@ -3,4 +3,4 @@ use Rattle.text.proofs.answer.Read.new.Goals as goal
 
 pub returns : goal.returns
 unfolding empty_read
-returns c = simp (c.new-block.ensures, c.none-marks.ensures)
+returns c = simp (c.new.ensures, c.none.ensures)

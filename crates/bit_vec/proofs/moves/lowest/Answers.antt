@@ -1,8 +1,0 @@
-use borrow.Author.Tests.{eq-eqb, ne_eqb}
-use Rattle.bit_vec.proofs.moves.lowest.Goals as goal
-
-pub returns-then-value-eq1 : goal.returns-then-value-eq1
-returns-then-value-eq1 c = simp (eq-eqb _ _ c.if-value-eq1.true)
-
-pub returns-else-value-eq1 : goal.returns-else-value-eq1
-returns-else-value-eq1 c = simp (ne_eqb _ _ c.if-value-eq1.false)
