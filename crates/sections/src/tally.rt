@@ -1,5 +1,6 @@
 // What a replay of a recorded list prints, how many answers there were and how many agreed, and the room that it takes.
-ghost use Rattle.std.specs.Prelude.{◌≡◌, length};
+ghost use Rattle.std.specs.Prelude.{◌+◌, ◌≡◌, ◌%◌, ◌^◌, length};
+ghost use Rattle.pcode.specs.Var.{pick};
 
 use std::io;
 
@@ -17,7 +18,10 @@ impl Tally {
     };
 
     // One answer more, which agrees or does not.
-    pub fn with(self, same: bool) -> Tally {
+    pub fn with(self, same: bool) -> Tally
+        ensures counted { result.answers ≡ (self.answers + 1) % 2 ^ 64 }
+        ensures agreed { result.agree ≡ (self.agree + pick same 1 0) % 2 ^ 64 }
+    {
         Tally {
             answers: self.answers.wrapping_add(1),
             agree: self.agree.wrapping_add(u64::from(same)),
