@@ -27,12 +27,23 @@ pub fn at(s: &[u64], i: usize, past: u64) -> u64
     s.get(i).copied().unwrap_or(past)
 }
 
+// The codes of a slice of the same length. A loop, since std's `copy_from_slice` and `rotate_left` take `memmove` from C, a name that the static library
+// does not ask its host for.
+pub fn copy(out: &mut [u64], other: &[u64])
+    requires { length out.old ≡ length other.now }
+    ensures { out.new ≡ other.now }
+{
+    for (i, x) in out.iter_mut().enumerate() {
+        *x = other[i];
+    }
+}
+
 // A copy, cut where `other` is longer, with `high` in the places above where it is shorter.
 pub fn copy_any(out: &mut [u64], other: &[u64], high: u64)
     ensures { out.new ≡ fit high (length out.old) other.now }
 {
     let n = out.len().min(other.len());
-    out[..n].copy_from_slice(&other[..n]);
+    copy(&mut out[..n], &other[..n]);
     repeat(&mut out[n..], high);
 }
 

@@ -6,7 +6,7 @@ ghost use Rattle.bit_vec.specs.Moves.{last_of, up, down, rotate_left, rotate_rig
 ghost use Rattle.bit_vec.specs.Known.{left_of, right_of};
 
 use crate::known::{get_const, min};
-use crate::moves::{copy_any, fill, repeat, sign};
+use crate::moves::{copy, copy_any, fill, repeat, sign};
 use bit::Bit;
 
 // `a`, k places up, with zeros below.
@@ -92,8 +92,9 @@ pub fn rotate_left(out: &mut [u64], a: &[u64], s: usize)
     requires { (length a.now ≡ length out.old) × (s ≤ length out.old) }
     ensures { out.new ≡ rotate_left s a.now }
 {
-    out.copy_from_slice(a);
-    out.rotate_left(s);
+    let n = out.len() - s;
+    copy(&mut out[n..], &a[..s]);
+    copy(&mut out[..n], &a[s..]);
 }
 
 // Bit i of `a` at place (i + s) modulo the width.

@@ -1,8 +1,11 @@
 -- Numbers at a width inside 128 bits: cuts of cuts, masks, differences that wrap and that do not, order tests.
-use Rattle.std.proofs.Common.{ℕ, ◌+◌, ◌*◌, ◌-◌, ◌%◌, ◌^◌, ◌<◌, ◌≤◌, arith, mod-eq_of_lt, ◌≡◌, refl, sym, ap, ◌∙◌, Bool, true, false, not, ltb, leb, pow-add, pow_pos, ltb-true, ltb-false, leb-true, le-leb}
-use native.Mathlib.Nat.{mod-add-mod, add-mod_right, mod-eq-sub-mod, sub-zero}
+use Rattle.std.proofs.Common.{ℕ, ◌+◌, ◌*◌, ◌-◌, ◌/◌, ◌%◌, ◌^◌, ◌<◌, ◌≤◌, arith, mod-eq_of_lt, ◌≡◌, refl, sym, ap, ◌∙◌, Bool, true, false, not, ltb, leb, pow-add, pow_pos, ltb-true, ltb-false, leb-true, le-leb}
+use native.Mathlib.Nat.{mod-add-mod, add-mod_right, mod-eq-sub-mod, sub-zero, div-le_self}
+use Prim.Native.Nat.{zero-le}
 use lib.Pow.{mod-mod-pow, not_mod}
 use borrow.Author.Tests.{lt-leb}
+use Rattle.pcode.specs.Var.{pick}
+use Rattle.meaning.specs.Meaning.{shift_right}
 use Rattle.wide.specs.declared.Wide.{Wide}
 use Rattle.wide.specs.Value.{value_of}
 
@@ -63,3 +66,10 @@ even_power w h = let e = power_suc w h in omega arith
 -- a negative number with the bits above it set
 pub extended : (a A W M : ℕ) → a < W → W ≤ A → A ≤ M → (a + (A - 1 - (W - 1))) % M ≡ a + (A - W)
 extended a A W M ha hw hm = let e : A - 1 - (W - 1) ≡ A - W = omega arith in ap (λ (n : ℕ). (a + n) % M) e ∙ mod-eq_of_lt (omega arith)
+
+-- a number shifted right is no larger
+pub shifted_le : (w a b : ℕ) → shift_right w a b ≤ a
+shifted_le w a b = by (leb w b) refl where
+  by : (t : Bool) → leb w b ≡ t → pick t 0 (a / 2 ^ b) ≤ a
+  by true e = zero-le
+  by false e = div-le_self a (2 ^ b)

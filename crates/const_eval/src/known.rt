@@ -4,8 +4,8 @@ ghost use Rattle.const_eval.specs.Known.{part_of, Within};
 ghost use Rattle.const_eval.specs.Map.{Inside};
 ghost use Rattle.const_eval.specs.State.{known_of, Keeps, map_gives, entries_of, entered, Room, first_use, noted, flag_of, keep_flags, forgotten, cleared};
 
-use crate::map::{enter_part, find};
-use crate::place::{Place, fresh_row, holds};
+use crate::map::{enter_part, lookup, lookup_part};
+use crate::place::{Place, fresh_row};
 
 // How many entries the map has, and the next expression's id.
 #[derive(Clone, Copy)]
@@ -46,21 +46,15 @@ impl<'a> ConstEval<'a> {
         requires { (131 * self.now.tally.count ≤ length self.now.map.now) × Inside (length self.now.store.now) (entries_of (known_of self.now)) }
         ensures { result ≡ map_gives key.now (known_of self.now) }
     {
-        let n = self.tally.count;
-        let p = find(self.map, n, key)?;
-        if holds(self.store, p, key) {
-            Some(p)
-        } else {
-            None
-        }
+        lookup(self.store, self.map, self.tally.count, key)
     }
 
     // The part last entered for the value of a part, if it still holds it.
-    fn lookup_part(&self, p: Place) -> Option<Place>
+    pub fn lookup_part(&self, p: Place) -> Option<Place>
         requires { (131 * self.now.tally.count ≤ length self.now.map.now) × Inside (length self.now.store.now) (entries_of (known_of self.now)) × Within (length self.now.store.now) p }
         ensures { result ≡ map_gives (part_of p self.now.store.now) (known_of self.now) }
     {
-        self.lookup(p.part(self.store))
+        lookup_part(self.store, self.map, self.tally.count, p)
     }
 
     // A part's value is entered.

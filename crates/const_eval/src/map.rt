@@ -1,9 +1,10 @@
 // The value map: entries of a value and the part of a variable entered for it, the newest last.
 ghost use Rattle.std.specs.Prelude.{◌≡◌, ◌+◌, ◌*◌, ◌≤◌, length};
 ghost use Rattle.const_eval.specs.Known.{part_of, Within, same_codes, splice};
-ghost use Rattle.const_eval.specs.Map.{place_at, entry_at, entries, words_of, Short, find_e};
+ghost use Rattle.const_eval.specs.Map.{place_at, entry_at, entries, words_of, Inside, Short, find_e, lookup_of};
 
-use crate::place::Place;
+use crate::place::{Place, holds};
+use bit_vec::moves::copy;
 
 // An entry is 131 words of one slice: a value is as long as its part, and a struct would hold 128 codes with a length beside them.
 // An entry's words: the part, then the value.
@@ -11,7 +12,7 @@ fn put_entry(row: &mut [u64], p: Place, key: &[u64])
     requires { length row.old ≡ 3 + length key.now }
     ensures { row.new ≡ words_of p key.now }
 {
-    row[3..].copy_from_slice(key);
+    copy(&mut row[3..], key);
     row[0] = p.row as u64;
     row[1] = p.offset as u64;
     row[2] = p.size as u64;
@@ -48,7 +49,7 @@ fn hit(map: &[u64], i: usize, p: Place, key: &[u64]) -> bool
 }
 
 // The entry last made for that value, among the first `n`.
-pub(crate) fn find(map: &[u64], n: usize, key: &[u64]) -> Option<Place>
+fn find(map: &[u64], n: usize, key: &[u64]) -> Option<Place>
     requires { (131 * n ≤ length map.now) × Short (entries map.now n) }
     ensures { result ≡ find_e key.now (entries map.now n) }
 {
@@ -59,6 +60,23 @@ pub(crate) fn find(map: &[u64], n: usize, key: &[u64]) -> Option<Place>
         }
     }
     None
+}
+
+// The part last entered for that value, if it still holds it.
+pub fn lookup(store: &[u64], map: &[u64], n: usize, key: &[u64]) -> Option<Place>
+    requires { (131 * n ≤ length map.now) × Inside (length store.now) (entries map.now n) }
+    ensures { result ≡ lookup_of store.now (entries map.now n) key.now }
+{
+    let p = find(map, n, key)?;
+    if holds(store, p, key) { Some(p) } else { None }
+}
+
+// The part last entered for the value of a part, if it still holds it.
+pub fn lookup_part(store: &[u64], map: &[u64], n: usize, p: Place) -> Option<Place>
+    requires { (131 * n ≤ length map.now) × Inside (length store.now) (entries map.now n) × Within (length store.now) p }
+    ensures { result ≡ lookup_of store.now (entries map.now n) (part_of p store.now) }
+{
+    lookup(store, map, n, p.part(store))
 }
 
 // The map's entry at `n`, of a part of the store.

@@ -2,6 +2,8 @@
 ghost use Rattle.std.specs.Prelude.{◌≡◌, ◌+◌, ◌*◌, ◌≤◌, length};
 ghost use Rattle.const_eval.specs.Known.{start_of, part_of, Within, same_codes, fresh_from, fresh_row, splice};
 
+use bit_vec::moves::copy;
+
 // Bytes `offset` up to `offset + size` of a row of the store, which has 128 codes a row.
 #[derive(Clone, Copy)]
 pub struct Place {
@@ -55,5 +57,5 @@ pub fn put(store: &mut [u64], p: Place, new: &[u64])
     ensures { store.new ≡ splice (start_of p) new.now store.old }
 {
     let start = 128 * p.row + 8 * p.offset;
-    store[start..start + new.len()].copy_from_slice(new);
+    copy(&mut store[start..start + new.len()], new);
 }

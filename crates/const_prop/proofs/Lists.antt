@@ -1,6 +1,6 @@
 -- The result and the targets as the walk fills them. Assumes nothing.
-use Rattle.std.proofs.Common.{ℕ, zero, suc, ◌+◌, ◌≤◌, ◌<◌, ◌≡◌, refl, sym, ◌∙◌, ap, List, [], ◌∷◌, ◌++◌, append_assoc, append-nil, add-one, add-zero, arith, length, take, drop, get_or, set, replicate, drop-cons}
-use lib.Seq.{set_at}
+use Rattle.std.proofs.Common.{ℕ, zero, suc, ◌+◌, ◌-◌, ◌≤◌, ◌<◌, ◌≡◌, refl, sym, ◌∙◌, ap, List, [], ◌∷◌, ◌++◌, append_assoc, append-nil, add-one, add-zero, arith, length, take, drop, get_or, set, replicate, drop-cons}
+use lib.Seq.{set_at, take-nil}
 use Rattle.pcode.specs.Block.{blank_stmt, blank_stmts}
 use Rattle.pcode.specs.declared.block.Stmt.{Stmt}
 use Rattle.widen.specs.declared.widen.Made.{Made}
@@ -115,8 +115,18 @@ shaped_targets m l js k s h e = go m s ∙ ap (λ (z : List ℕ). z ++ targets_o
         ∙ ap (λ (i : ℕ). take i (set (set js k (target_of a)) (suc k) (target_of b))) (let q : k + 2 ≡ suc (suc k) = omega arith in q)
         ∙ two_both js k (target_of a) (target_of b) (omega (arith, h))
 
--- the targets below a statement
-pub below_targets : (i : ℕ) (ss : List Stmt) → drop i (targets_of ss) ≡ targets_of (drop i ss)
-below_targets zero ss = refl
-below_targets (suc i) [] = refl
-below_targets (suc i) (s ∷ ss) = below_targets i ss
+-- the targets of the later statements
+pub drop_targets : (i : ℕ) (ss : List Stmt) → drop i (targets_of ss) ≡ targets_of (drop i ss)
+drop_targets zero ss = refl
+drop_targets (suc i) [] = refl
+drop_targets (suc i) (s ∷ ss) = drop_targets i ss
+
+-- the targets below a statement, where a list begins with those of the first n
+pub below_targets : (js : List ℕ) (ss : List Stmt) (n i : ℕ) → take n js ≡ targets_of (take n ss) → take (n - i) (drop i js) ≡ targets_of (drop i (take n ss))
+below_targets js ss n i e = take_drop_swap i n js ∙ ap (drop i) e ∙ drop_targets i (take n ss)
+  where
+    take_drop_swap : (i n : ℕ) (js : List ℕ) → take (n - i) (drop i js) ≡ drop i (take n js)
+    take_drop_swap zero n js = ap (λ (k : ℕ). take k js) (let q : n - 0 ≡ n = omega arith in q)
+    take_drop_swap (suc i) n [] = take-nil {A = ℕ} (n - suc i) ∙ sym (ap (λ (l : List ℕ). drop (suc i) l) (take-nil {A = ℕ} n))
+    take_drop_swap (suc i) zero (x ∷ js) = ap (λ (k : ℕ). take k (drop i js)) (let q : zero - suc i ≡ 0 = omega arith in q)
+    take_drop_swap (suc i) (suc n) (x ∷ js) = ap (λ (k : ℕ). take k (drop i js)) (let q : suc n - suc i ≡ n - i = omega arith in q) ∙ take_drop_swap i n js

@@ -16,7 +16,8 @@ use Rattle.print.specs.Texts.{written}
 use Rattle.print.specs.Printing.{Print}
 use Rattle.print.proofs.Unique.{print_written}
 use Rattle.optimizer.proofs.Few.{first_few, second_few, both_few}
-use Rattle.front.specs.Front.{limit_of, input_room, treat_of, end_by, end_of, told_by, answer_of}
+use Rattle.front.specs.Front.{limit_of, input_room, treat_of, with_block, end_by, end_of, told_by, answer_of}
+use Rattle.front.specs.declared.Refused.{Refused}
 use Rattle.front.specs.declared.Pass.{Pass}
 use Rattle.front.specs.declared.Pass.TheVariants.{First, Second, Both}
 
@@ -27,7 +28,7 @@ beginning_ends p bytes n h = ap (λ (r : Result Read Refusal). end_by r p) (begi
 
 -- and so is the answer
 pub beginning_decides : (p : Pass) (bytes : List ℕ) (n : ℕ) → input_room p ≤ n → answer_of p (take n bytes) ≡ answer_of p bytes
-beginning_decides p bytes n h = ap (λ (t : Result Block Refusal). told_by t) (beginning_ends p bytes n h)
+beginning_decides p bytes n h = ap (λ (t : Result Block Refused). told_by t) (beginning_ends p bytes n h)
 
 -- 81 lines; 146 for the second pass alone
 pub input_rooms : (input_room First ≡ 16281) × (input_room Second ≡ 29346) × (input_room Both ≡ 16281)
@@ -39,17 +40,22 @@ few First b m t = first_few b m t
 few Second b m t = second_few b m t
 few Both b m t = both_few b m t
 
+-- a block that comes with no refusal is the treated one
+only_ok : (b : Block) (x : Result Block Refusal) (t : Block) → with_block b x ≡ Ok t → x ≡ Ok t
+only_ok b (Ok u) t e = let z : u ≡ t = cc in ap Ok z
+only_ok b (Err why) t e = cc
+
 pub ended_few : (p : Pass) (bytes : List ℕ) (t : Block) → end_of p bytes ≡ Ok t → t.count ≤ 129
 unfolding end_of
 ended_few p bytes t = go (read_of (limit_of p) bytes)
   where
     go : (r : Result Read Refusal) → end_by r p ≡ Ok t → t.count ≤ 129
-    go (Ok r) e = few p r.block r.marks t e
+    go (Ok r) e = few p r.block r.marks t (only_ok r.block (treat_of p r.block r.marks) t e)
     go (Err why) e = let z : ◌≡◌ {A = ℕ} 0 1 = cc in omega arith
 
-told_room : (a : Result Block Refusal) → ((b : Block) → a ≡ Ok b → b.count ≤ 129) → (told_by a).room ≤ block_room
+told_room : (a : Result Block Refused) → ((b : Block) → a ≡ Ok b → b.count ≤ 129) → (told_by a).room ≤ block_room
 told_room (Ok b) h = omega (arith, h b refl, length-take b.count b.stmts)
-told_room (Err why) h = omega arith
+told_room (Err r) h = omega arith
 
 -- 129 records' room is enough for every answer
 pub page_suffices : (p : Pass) (bytes : List ℕ) → (answer_of p bytes).room ≤ block_room

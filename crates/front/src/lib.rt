@@ -43,13 +43,32 @@ pub fn treat_block(pass: Pass, block: &Block, marks: Marks) -> Result<Block, Ref
     }
 }
 
+// A refusal of a file, and the block that was read: the empty one, where reading was refused.
+#[derive(Clone, Copy)]
+pub struct Refused {
+    pub why: Refusal,
+    pub block: Block,
+}
+
 // What becomes of any bytes: a treated block, or one refusal of 01 with its place.
 #[tactic(auto, unfolding(crate::specs::Front::end_of))]
-pub fn treat_bytes(pass: Pass, input: &[u8]) -> Result<Block, Refusal>
+pub fn treat_bytes(pass: Pass, input: &[u8]) -> Result<Block, Refused>
     ensures { result ≡ end_of pass input.now }
 {
-    let r = read(input, limit(pass))?;
-    treat_block(pass, &r.block, r.marks)
+    let r = match read(input, limit(pass)) {
+        Ok(r) => r,
+        Err(why) => return Err(Refused {
+            why,
+            block: Block::new(),
+        }),
+    };
+    match treat_block(pass, &r.block, r.marks) {
+        Ok(block) => Ok(block),
+        Err(why) => Err(Refused {
+            why,
+            block: r.block,
+        }),
+    }
 }
 
 // Any bytes: the treated block, or one refusal of 01 with its place; nothing else is written.
@@ -58,6 +77,6 @@ pub fn treat(pass: Pass, input: &[u8], out: &mut [u8]) -> Option<usize>
 {
     match treat_bytes(pass, input) {
         Ok(block) => print(&block, out),
-        Err(why) => refusal(why, out),
+        Err(refused) => refusal(refused.why, out),
     }
 }

@@ -90,8 +90,8 @@ module _ (s m : ℕ) (f : ℕ → Bool) (e : holds f m) where
   shared k = has_and s m k ∙ and_swap (has s k) (has m k) ∙ rw (e k)
 
 -- 2^k as the code makes it
-pub power : (k : ℕ) → k ≤ 16 → (1 * 2 ^ k) % 2 ^ 64 ≡ 2 ^ k
-power k h = rw one-mul (mod-eq_of_lt (pow-lt {i = k} {j = 64} (omega arith)))
+pub power : (k : ℕ) → k < 64 → (1 * 2 ^ k) % 2 ^ 64 ≡ 2 ^ k
+power k h = rw one-mul (mod-eq_of_lt (pow-lt {i = k} {j = 64} h))
 
 -- the bytes from o up to e
 pub run_bytes : (o e : ℕ) → holds (between o e) (2 ^ e - 2 ^ min o e)

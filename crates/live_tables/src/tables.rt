@@ -14,7 +14,7 @@ pub struct Tables {
     pub across: [LiveBytes; 112],
 }
 
-fn no_sets() -> [LiveBytes; 112]
+pub fn no_sets() -> [LiveBytes; 112]
     ensures { result ≡ no_sets }
 {
     [LiveBytes::NONE; 112]

@@ -1,5 +1,5 @@
 -- Writing one text after another is writing both; copying a row is writing it.
-use Rattle.std.proofs.Common.{ℕ, zero, suc, ◌+◌, ◌-◌, ◌/◌, ◌%◌, ◌<◌, ◌≤◌, add-one, add-zero, not-suc-le-zero, arith, ◌≡◌, refl, sym, ap, ◌∙◌, List, [], ◌∷◌, ◌++◌, append_assoc, lt-ltb, le-ltb, length, take, drop, set, length-append, length-drop, take-append-drop, length-take-le, take_at, drop-drop}
+use Rattle.std.proofs.Common.{ℕ, zero, suc, ◌+◌, ◌-◌, ◌/◌, ◌%◌, ◌<◌, ◌≤◌, add-one, add-zero, not-suc-le-zero, arith, ◌≡◌, refl, sym, ap, ◌∙◌, List, [], ◌∷◌, ◌++◌, append_assoc, lt-ltb, le-ltb, length, take, drop, set, get_or, take-suc, length-append, length-drop, take-append-drop, length-take-le, take_at, drop-drop}
 use lib.Seq.{set_split, drop-append-add}
 use borrow.Rule.Slice.PartMut.{put_mid}
 use Rattle.std.proofs.lemmas.Slice.{put_mid-paste}
@@ -73,6 +73,17 @@ retold {d = d} {e = e} {at = at} {p = p} {xs = xs} {ys = ys} g h w =
 -- nothing written
 pub none : (d : List ℕ) (at : ℕ) → Wrote 0 d at [] d at
 none d at = record { place = sym (add-zero at); bytes = sym (written_none d at); kept = refl; width = omega arith }
+
+-- byte by byte: the first i bytes of a row are there
+module _ (d : List ℕ) (at : ℕ) (s : List ℕ) (i : ℕ) (h : i < length s) (room : at + length s ≤ length d) where
+  pub row_more : set (written d at (take i s)) (at + i) (get_or s i 0) ≡ written d at (take (i + 1) s)
+  row_more =
+      let n : length (take i s) ≡ i = length-take-le i s (omega arith) in
+      let m : length (written d at (take i s)) ≡ length d = written_length d at (take i s) (omega arith) in
+      written_one (written d at (take i s)) (at + i) (get_or s i 0) (omega arith)
+      ∙ ap (λ (k : ℕ). written (written d at (take i s)) (at + k) (get_or s i 0 ∷ [])) (sym n)
+      ∙ join d at (take i s) (get_or s i 0 ∷ []) (omega arith)
+      ∙ ap (written d at) (sym (take-suc s i 0 h) ∙ ap (λ (k : ℕ). take k s) (sym (add-one i)))
 
 -- a row copied over a part of a buffer
 pub copied : (d : List ℕ) (at k : ℕ) (s : List ℕ) (now : List ℕ) → at + length s ≤ length d → k ≡ length s → now ≡ s

@@ -10,6 +10,7 @@ use Rattle.text.specs.declared.answer.Read.{Read}
 use Rattle.print.specs.Rooms.{record_room, block_room}
 use Rattle.print.specs.Printing.{printed, print_of, after_print}
 use Rattle.front.specs.declared.Pass.{Pass}
+use Rattle.front.specs.declared.Refused.{Refused}
 use Rattle.front.specs.declared.Pass.TheVariants.{First, Second, Both}
 
 -- 0: a treated block's text was written; 255: the buffer has no room for it
@@ -27,30 +28,30 @@ abbrev pub printed_in : Block → ℕ → Option ℕ
 printed_in b n = print_of (record_room * length (held b)) (printed (held b)) n
 
 -- a refusal answers with 01's number
-abbrev pub code_of : Result Block Refusal → ℕ → ℕ
+abbrev pub code_of : Result Block Refused → ℕ → ℕ
 code_of (Ok b) n = code_by (printed_in b n)
-code_of (Err why) n = refusal_number why
+code_of (Err r) n = refusal_number r.why
 
 -- and with its place
-abbrev pub detail_of : Result Block Refusal → ℕ → ℕ
+abbrev pub detail_of : Result Block Refused → ℕ → ℕ
 detail_of (Ok b) n = detail_by (printed_in b n)
-detail_of (Err why) n = refusal_place why
+detail_of (Err r) n = refusal_place r.why
 
 -- a refusal leaves the buffer as it was
-abbrev pub after_of : Result Block Refusal → List ℕ → List ℕ
+abbrev pub after_of : Result Block Refused → List ℕ → List ℕ
 after_of (Ok b) old = after_print (printed_in b (length old)) (printed (held b)) old
-after_of (Err why) old = old
+after_of (Err r) old = old
 
 -- the whole promise: the code, the detail and the buffer
-pub record Answers (a : Result Block Refusal) (old new : List ℕ) (detail r : ℕ) : Type 0 where
+pub record Answers (a : Result Block Refused) (old new : List ℕ) (detail r : ℕ) : Type 0 where
   pub code : r ≡ code_of a (length old)
   pub detail_is : detail ≡ detail_of a (length old)
   pub memory : new ≡ after_of a old
 
 -- the code where the buffer has room: 0, or 01's number of a refusal
-abbrev pub code_with_room : Result Block Refusal → ℕ
+abbrev pub code_with_room : Result Block Refused → ℕ
 code_with_room (Ok b) = 0
-code_with_room (Err why) = refusal_number why
+code_with_room (Err r) = refusal_number r.why
 
 -- 1: the first pass; 2: the second; any other number: both
 abbrev pub pass_of : ℕ → Pass

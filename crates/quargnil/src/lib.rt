@@ -46,7 +46,7 @@ fn answer(pass: Pass, input: &[u8], out: &mut [u8], detail: &mut u64) -> u64
 {
     match treat_bytes(pass, input) {
         Ok(block) => shown(&block, out, detail),
-        Err(why) => refused(why, detail),
+        Err(r) => refused(r.why, detail),
     }
 }
 

@@ -10,6 +10,7 @@ ghost use Rattle.const_eval.specs.State.{known_of, Able, Keeps};
 ghost use Rattle.settle.specs.Settle.{named, source_of, decide_of, valued, settled_of, settlement_of};
 
 use bit_vec::known::get_const;
+use bit_vec::moves::copy;
 use const_eval::known::ConstEval;
 use const_eval::place::{Place, holds, put};
 use eval::name::name;
@@ -46,7 +47,7 @@ fn compute(
     ensures value { result ≡ (outcome_of coded op (bits_of known.now.store.now ca.now a) (bits_of known.now.store.now cb.now b) (part_of p known.now.store.now)).answer }
     ensures out_after { out.new ≡ named known.now.tally.next (outcome_of coded op (bits_of known.now.store.now ca.now a) (bits_of known.now.store.now cb.now b) (part_of p known.now.store.now)).cells }
 {
-    out.copy_from_slice(p.part(known.store));
+    copy(out, p.part(known.store));
     let r = eval(
         op,
         operand_bits(known.store, ca, a),

@@ -1,4 +1,6 @@
 -- A file's first line, and how reading goes on from it.
+use Rattle.std.proofs.Common.{min, arith, ◌-◌, ◌∙◌, length-take-le}
+use Rattle.std.proofs.lemmas.List.{drop_min}
 use Prim.Native.Nat.{ℕ, zero, suc, ◌+◌, ◌<◌, ◌≤◌}
 use native.Mathlib.Nat.{not-suc-le-zero}
 use mathlib.Core.Path.{◌≡◌, refl, ap}
@@ -9,6 +11,7 @@ use lib.ListN.{length, take, drop}
 use Rattle.pcode.specs.Var.{pick}
 use Rattle.pcode.specs.declared.refusal.Refusal.{Refusal}
 use Rattle.fields.specs.Parts.{place_of, head_of, tail_of}
+use Rattle.fields.proofs.Parts.{upward, placed}
 use Rattle.record.specs.Records.{record_of}
 use Rattle.text.specs.Reading.{newline, in_front, lines_of, accepted, read_lines}
 use Rattle.std.specs.Prelude.{Ok, Err}
@@ -39,6 +42,13 @@ no_lines (b ∷ s) h = absurd (not-suc-le-zero h)
 pub first_line : (s : List ℕ) → 0 < length s → lines_of s ≡ head_of newline s ∷ lines_of (tail_of newline s)
 first_line [] h = absurd (not-suc-le-zero h)
 first_line (b ∷ s) h = first_of b s
+
+-- what a line and its LF leave
+pub past_line : (s t : List ℕ) (n : ℕ) → t ≡ head_of newline s → n ≡ min (length t + 1) (length s) → take (length s - n) (drop n s) ≡ tail_of newline s
+past_line s t n e h =
+    let l : length t ≡ place_of newline s = ap length e ∙ length-take-le (place_of newline s) s (placed newline s) in
+    let m : length t + 1 ≡ suc (place_of newline s) = omega (arith, l) in
+    upward s n ∙ ap (λ (k : ℕ). drop k s) h ∙ drop_min (length t + 1) s ∙ ap (λ (k : ℕ). drop k s) m
 
 -- reading goes on line by line
 module _ (limit line : ℕ) (r : Read) (ls : List (List ℕ)) where

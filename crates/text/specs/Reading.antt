@@ -39,6 +39,11 @@ empty_read = read_with empty_block no_marks
 abbrev pub with_mark : Marks → VarId → Marks
 with_mark m id = record { ids = set m.ids m.count id; count = m.count + 1 }
 
+-- what was read so far, or why reading stops there
+abbrev pub read_after : Result (Unit {0}) Refusal → Read → Result Read Refusal
+read_after (Ok u) r = Ok r
+read_after (Err why) r = Err why
+
 -- up to 16 leading marks; a 17th, or one after a statement, is 1
 unfoldable pub accepted_mark : ℕ → Read → VarId → Result Read Refusal
 accepted_mark line r id =

@@ -1,6 +1,6 @@
 // What was read so far, and how one record more is accepted.
-ghost use Rattle.std.specs.Prelude.{◌≡◌, ℕ};
-ghost use Rattle.text.specs.Reading.{empty_read, accepted_mark, accepted_stmt, accepted};
+ghost use Rattle.std.specs.Prelude.{◌≡◌, ℕ, OnErr};
+ghost use Rattle.text.specs.Reading.{empty_read, read_after, accepted_mark, accepted_stmt, accepted};
 
 use pcode::block::{Block, Marks, Stmt};
 use pcode::refusal::Refusal;
@@ -26,8 +26,9 @@ impl Read {
     }
 
     // One mark more; a 17th, or one after a statement, is bad.
-    fn mark(mut self, id: VarId, line: usize) -> Result<Read, Refusal>
-        ensures { result ≡ accepted_mark line self id }
+    fn mark(&mut self, id: VarId, line: usize) -> Result<(), Refusal>
+        ensures after { read_after result self.new ≡ accepted_mark line self.old id }
+        ensures unchanged { OnErr result (self.new ≡ self.old) }
     {
         let at = self.marks.count;
         if 0 < self.block.count || 16 <= at {
@@ -35,26 +36,29 @@ impl Read {
         }
         self.marks.ids[at] = id;
         self.marks.count = at + 1;
-        Ok(self)
+        Ok(())
     }
 
-    // One statement more, up to `limit`.
-    fn statement(self, s: Stmt, limit: usize) -> Result<Read, Refusal>
-        ensures { result ≡ accepted_stmt limit self s }
+    // One statement more, up to `limit`. In place: by value a whole block was copied for each line.
+    fn statement(&mut self, s: Stmt, limit: usize) -> Result<(), Refusal>
+        ensures after { read_after result self.new ≡ accepted_stmt limit self.old s }
+        ensures unchanged { OnErr result (self.new ≡ self.old) }
     {
         let n = self.block.count;
         if limit <= n {
             return Err(Refusal::TooManyStatements(n));
         }
-        Ok(Read {
-            block: self.block.push(s),
-            marks: self.marks,
-        })
+        if n < 129 {
+            self.block.stmts[n] = s;
+            self.block.count = n + 1;
+        }
+        Ok(())
     }
 
     // One record more, which stands in that line.
-    pub fn accept(self, r: Option<Record>, line: usize, limit: usize) -> Result<Read, Refusal>
-        ensures { result ≡ accepted limit line self r }
+    pub fn accept(&mut self, r: Option<Record>, line: usize, limit: usize) -> Result<(), Refusal>
+        ensures after { read_after result self.new ≡ accepted limit line self.old r }
+        ensures unchanged { OnErr result (self.new ≡ self.old) }
     {
         match r {
             None => Err(Refusal::BadLine(line)),

@@ -4,7 +4,7 @@ ghost use Rattle.std.specs.Iterator.{YieldsFirstRef, item_count};
 ghost use Rattle.text.specs.Reading.{room_of, lines_of, read_of};
 
 use crate::answer::Read;
-use fields::part::{head, start};
+use fields::part::head;
 use pcode::refusal::Refusal;
 use record::record::parse;
 
@@ -31,8 +31,9 @@ impl<'a> Iterator for Lines<'a> {
         if left.is_empty() {
             return None;
         }
-        self.0 = &left[start(left, b'\n')..];
-        Some(head(left, b'\n'))
+        let text = head(left, b'\n');
+        self.0 = &left[(text.len() + 1).min(left.len())..];
+        Some(text)
     }
 }
 
@@ -44,7 +45,7 @@ pub fn read(bytes: &[u8], limit: usize) -> Result<Read, Refusal>
     let mut so_far = Read::new();
     let mut line: usize = 1;
     for text in Lines(bytes) {
-        so_far = so_far.accept(parse(text), line, most)?;
+        so_far.accept(parse(text), line, most)?;
         line += 1;
     }
     Ok(so_far)

@@ -6,7 +6,7 @@ use Rattle.pcode.specs.declared.refusal.Refusal.{Refusal}
 use Rattle.vars.specs.Vars.{ids_of}
 use Rattle.const_eval.specs.State.{known_of}
 use Rattle.const_prop.specs.Pass.{Env, least_from}
-use Rattle.const_prop.proofs.Lists.{below_targets}
+use Rattle.const_prop.proofs.Lists.{drop_targets}
 use Rattle.const_prop.proofs.Walks.{Going, going_start, going_apt, step_is, going_refused, going_on, going_end, going_two, sets_length}
 use Rattle.const_prop.proofs.walk.Goals as goal
 
@@ -27,7 +27,7 @@ returns-in-Err c =
     let s = known_of v.known in
     let u = known_of x.new.known in
     let st = get_or ss v.i blank_stmt in
-    let e = step_is env (length ss) v.i v.result.count s v.skip v.least v.result.stmts v.jumps _ st (record { state = u; made = x.result }) v.invariant.0 (ap (drop (v.i + 1)) c.requires.targets ∙ below_targets (v.i + 1) ss) x.ensures.result_after in
+    let e = step_is env (length ss) v.i v.result.count s v.skip v.least v.result.stmts v.jumps _ st (record { state = u; made = x.result }) v.invariant.0 (ap (drop (v.i + 1)) c.requires.targets ∙ drop_targets (v.i + 1) ss) x.ensures.result_after in
     ap (λ (r : Refusal). Err r) c.refusal.ensures
     ∙ going_refused env (length ss) v.i v.result.count s v.skip v.least v.result.stmts v.jumps v.invariant.0 c.loop-i-test.true refl u x.result st refl e c.in-Err.why c.in-Err.is
 
@@ -41,7 +41,7 @@ add-requires c =
     let s = known_of v.known in
     let u = known_of x.new.known in
     let st = get_or ss v.i blank_stmt in
-    let e = step_is env (length ss) v.i v.result.count s v.skip v.least v.result.stmts v.jumps _ st (record { state = u; made = x.result }) v.invariant.0 (ap (drop (v.i + 1)) c.requires.targets ∙ below_targets (v.i + 1) ss) x.ensures.result_after in
+    let e = step_is env (length ss) v.i v.result.count s v.skip v.least v.result.stmts v.jumps _ st (record { state = u; made = x.result }) v.invariant.0 (ap (drop (v.i + 1)) c.requires.targets ∙ drop_targets (v.i + 1) ss) x.ensures.result_after in
     let two = going_two env (length ss) v.i v.result.count s v.skip v.least v.result.stmts v.jumps v.invariant.0 c.loop-i-test.true refl u x.result st refl e c.in-Ok.made c.in-Ok.is in
     record { room = (omega (arith, v.invariant.0.small, c.requires.stands.few), omega (arith, v.invariant.0.small, c.requires.stands.few, c.requires.jumps_room, v.invariant.2)); small = two }
 
@@ -57,7 +57,7 @@ loop-i-preserved c =
     let s = known_of v.known in
     let u = known_of x.new.known in
     let st = get_or ss v.i blank_stmt in
-    let e = step_is env (length ss) v.i v.result.count s v.skip v.least v.result.stmts v.jumps _ st (record { state = u; made = x.result }) g (ap (drop (v.i + 1)) c.requires.targets ∙ below_targets (v.i + 1) ss) x.ensures.result_after in
+    let e = step_is env (length ss) v.i v.result.count s v.skip v.least v.result.stmts v.jumps _ st (record { state = u; made = x.result }) g (ap (drop (v.i + 1)) c.requires.targets ∙ drop_targets (v.i + 1) ss) x.ensures.result_after in
     let apt = going_apt env (length ss) v.i v.result.count s v.skip v.least v.result.stmts v.jumps st g c.loop-i-test.true c.requires.stands.few (c.requires.stands.parts v.i c.loop-i-test.true) in
     let el = c.least_stmt-least.ensures ∙ ap (λ (z : VarId). least_from z (ids_of m.second)) c.least_stmt.ensures in (
       subst (λ (b : Block). Going env (length ss) (v.i + 1) b.count u m.skip c.least_stmt-least.result b.stmts c.add.new.jumps) (sym c.add.ensures.result_after)

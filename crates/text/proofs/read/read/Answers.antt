@@ -1,10 +1,11 @@
-use Rattle.std.proofs.Common.{ℕ, Option, arith, ap, sym, ◌∙◌}
+use Rattle.std.proofs.Common.{ℕ, Option, Result, arith, ap, sym, ◌∙◌}
+use Rattle.pcode.specs.declared.refusal.Refusal.{Refusal}
 use Rattle.std.proofs.lemmas.Result.{err_from_is_err_and}
 use mathlib.Core.Path.{subst}
 use Rattle.record.specs.Records.{record_of}
 use Rattle.record.specs.declared.record.Record.{Record}
 use Rattle.text.specs.declared.answer.Read.{Read}
-use Rattle.text.specs.Reading.{accepted, read_lines, lines_of, read_of, empty_read}
+use Rattle.text.specs.Reading.{read_after, accepted, read_lines, lines_of, read_of, empty_read}
 use Rattle.text.proofs.Lines.{lines_end, lines_more, lines_stop}
 use Rattle.text.proofs.Counts.{Counted, roomed, counted_none, counted_more}
 use Rattle.text.proofs.read.read.Goals as goal
@@ -16,11 +17,11 @@ loop-text-init c = record {
   most = omega (arith, c.room-most.ensures, roomed c.args.limit);
 }
 
-pub returns-in_err-so_far : goal.returns-in_err-so_far
+pub returns-in_err-accept : goal.returns-in_err-accept
 unfolding read_of
-returns-in_err-so_far c =
+returns-in_err-accept c =
     let l = c.loop-text in
-    let e = sym (c.accept.ensures ∙ ap (λ (x : Option Record). accepted c.room-most.result l.line l.so_far x) c.parse.ensures) ∙ c.in_err-so_far.was in
+    let e = sym (c.accept.ensures.after ∙ ap (λ (x : Option Record). accepted c.room-most.result l.line l.so_far x) c.parse.ensures) ∙ ap (λ (a : Result (Unit {0}) Refusal). read_after a c.accept.new.self) c.in_err-accept.was in
     let p = err_from_is_err_and c.from_residual.result c.from_residual.ensures.1 in
     rw (p.1, p.2)
     (sym (ap (λ (n : ℕ). read_lines n 1 empty_read (lines_of c.args.bytes.now)) (sym c.room-most.ensures) ∙ l.invariant.same
@@ -29,10 +30,10 @@ returns-in_err-so_far c =
 pub loop-text-preserved : goal.loop-text-preserved
 loop-text-preserved c =
     let l = c.loop-text in
-    let e = sym (c.accept.ensures ∙ ap (λ (x : Option Record). accepted c.room-most.result l.line l.so_far x) c.parse.ensures) ∙ c.in_ok-so_far.was in
+    let e = sym (c.accept.ensures.after ∙ ap (λ (x : Option Record). accepted c.room-most.result l.line l.so_far x) c.parse.ensures) ∙ ap (λ (a : Result (Unit {0}) Refusal). read_after a c.accept.new.self) c.in_ok-accept.was in
     record {
-      same = l.invariant.same ∙ lines_more c.room-most.result l.line l.so_far _ _ _ c.in-Some.ensures.steps c.in_ok-so_far.so_far e;
-      counted = counted_more c.room-most.result l.line l.so_far l.invariant.most l.invariant.counted c.in_ok-so_far.so_far (record_of c.in-Some.text.now) e;
+      same = l.invariant.same ∙ lines_more c.room-most.result l.line l.so_far _ _ _ c.in-Some.ensures.steps c.accept.new.self e;
+      counted = counted_more c.room-most.result l.line l.so_far l.invariant.most l.invariant.counted c.accept.new.self (record_of c.in-Some.text.now) e;
       most = l.invariant.most;
     }
 
