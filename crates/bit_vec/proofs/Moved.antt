@@ -21,6 +21,19 @@ get_d_in [] i d h = absurd (omega (arith, h))
 get_d_in (x ∷ s) zero d h = refl
 get_d_in (x ∷ s) (suc i) d h = get_d_in s i d (omega arith)
 
+-- the last element, by its place
+pub last_at : (z : ℕ) (xs : List ℕ) → 0 < length xs → get_or xs (length xs - 1) z ≡ last_of z xs
+last_at z [] h = absurd (omega (arith, h))
+last_at z (x ∷ []) h = refl
+last_at z (x ∷ (y ∷ ys)) h =
+    let q : suc (suc (length ys)) - 1 ≡ suc (suc (length ys) - 1) = omega arith in
+    let w : suc (length ys) - 1 < length (y ∷ ys) = omega arith in
+    rw q (sym (get_d_in (y ∷ ys) (suc (length ys) - 1) z w) ∙ get_d_in (y ∷ ys) (suc (length ys) - 1) x w ∙ last_at x (y ∷ ys) (omega arith))
+
+pub last_none : (z : ℕ) (xs : List ℕ) → length xs ≤ 0 → z ≡ last_of z xs
+last_none z [] h = refl
+last_none z (x ∷ xs) h = absurd (omega (arith, h))
+
 -- the sign is the last element
 pub last_got : (z : ℕ) (xs : List ℕ) → unwrap_or (slice_get xs (length xs - 1)) z ≡ last_of z xs
 last_got z [] = refl

@@ -50,7 +50,7 @@ impl<'a> ConstEval<'a> {
     }
 
     // The part last entered for the value of a part, if it still holds it.
-    pub fn lookup_part(&self, p: Place) -> Option<Place>
+    fn lookup_part(&self, p: Place) -> Option<Place>
         requires { (131 * self.now.tally.count ≤ length self.now.map.now) × Inside (length self.now.store.now) (entries_of (known_of self.now)) × Within (length self.now.store.now) p }
         ensures { result ≡ map_gives (part_of p self.now.store.now) (known_of self.now) }
     {

@@ -69,17 +69,23 @@ impl Block {
         }
     }
 
+    // One statement more; a full block stays.
+    pub fn add(&mut self, s: Stmt)
+        ensures { self.new ≡ pushed self.old s }
+    {
+        let at = self.count;
+        if at < 129 {
+            self.stmts[at] = s;
+            self.count = at + 1;
+        }
+    }
+
     // The block with one statement more; a full one stays.
     pub fn push(self, s: Stmt) -> Block
         ensures { result ≡ pushed self s }
     {
-        let at = self.count;
-        if 129 <= at {
-            return self;
-        }
         let mut out = self;
-        out.stmts[at] = s;
-        out.count = at + 1;
+        out.add(s);
         out
     }
 }

@@ -1,9 +1,6 @@
 -- Writing one text after another is writing both; copying a row is writing it.
 use Rattle.std.proofs.Common.{ℕ, zero, suc, ◌+◌, ◌-◌, ◌/◌, ◌%◌, ◌<◌, ◌≤◌, add-one, add-zero, not-suc-le-zero, arith, ◌≡◌, refl, sym, ap, ◌∙◌, List, [], ◌∷◌, ◌++◌, append_assoc, lt-ltb, le-ltb, length, take, drop, set, get_or, take-suc, length-append, length-drop, take-append-drop, length-take-le, take_at, drop-drop}
 use lib.Seq.{set_split, drop-append-add}
-use borrow.Rule.Slice.PartMut.{put_mid}
-use Rattle.std.proofs.lemmas.Slice.{put_mid-paste}
-use Rattle.std.proofs.lemmas.List.Edits.{paste_all}
 use Rattle.print.specs.Texts.{Wrote, written, digits_text}
 
 module _ (d : List ℕ) (at : ℕ) where
@@ -84,14 +81,6 @@ module _ (d : List ℕ) (at : ℕ) (s : List ℕ) (i : ℕ) (h : i < length s) (
       ∙ ap (λ (k : ℕ). written (written d at (take i s)) (at + k) (get_or s i 0 ∷ [])) (sym n)
       ∙ join d at (take i s) (get_or s i 0 ∷ []) (omega arith)
       ∙ ap (written d at) (sym (take-suc s i 0 h) ∙ ap (λ (k : ℕ). take k s) (sym (add-one i)))
-
--- a row copied over a part of a buffer
-pub copied : (d : List ℕ) (at k : ℕ) (s : List ℕ) (now : List ℕ) → at + length s ≤ length d → k ≡ length s → now ≡ s
-    → Wrote (length s) d at s (put_mid at k d now) (at + length s)
-unfolding written
-copied d at k s now h l e =
-    let b : put_mid at k d now ≡ written d at s = put_mid-paste at k d now s (length s) e (sym l) refl ∙ paste_all d at s (length s) refl in
-    record { place = refl; bytes = b; kept = ap length b ∙ written_length d at s h; width = omega arith }
 
 -- the digits, as the code makes them
 pub no_digit : (k v : ℕ) → k ≡ 0 → [] ≡ digits_text k v

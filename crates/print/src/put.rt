@@ -39,7 +39,7 @@ pub fn decimal(out: &mut [u8], at: usize, v: u64, most: usize) -> usize
     byte(out, p, digit(v % 10))
 }
 
-// A row of bytes. A loop, since std's `copy_from_slice` takes `memmove` from C, a name that the static library does not ask its host for.
+// A row of bytes. A loop, as bit_vec's `copy`: std's `copy_from_slice` takes `memmove` from C.
 pub fn copy(out: &mut [u8], at: usize, s: &[u8]) -> usize
     requires { at + length s.now ≤ length out.old }
     ensures { Wrote (length s.now) out.old at s.now out.new result }

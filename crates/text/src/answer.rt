@@ -39,7 +39,7 @@ impl Read {
         Ok(())
     }
 
-    // One statement more, up to `limit`. In place: by value a whole block was copied for each line.
+    // One statement more, up to `limit`; in place, so that no block is copied for a line.
     fn statement(&mut self, s: Stmt, limit: usize) -> Result<(), Refusal>
         ensures after { read_after result self.new ≡ accepted_stmt limit self.old s }
         ensures unchanged { OnErr result (self.new ≡ self.old) }
@@ -48,10 +48,7 @@ impl Read {
         if limit <= n {
             return Err(Refusal::TooManyStatements(n));
         }
-        if n < 129 {
-            self.block.stmts[n] = s;
-            self.block.count = n + 1;
-        }
+        self.block.add(s);
         Ok(())
     }
 
